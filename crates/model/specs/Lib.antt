@@ -1,0 +1,11 @@
+pub mod Marks
+pub mod Lists
+pub mod Calls
+pub mod Reference
+pub mod Steps
+pub mod Layouts
+pub mod Histories
+pub mod Lands
+pub mod Demand
+pub mod Answers
+pub mod Sessions

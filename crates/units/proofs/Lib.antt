@@ -1,0 +1,4 @@
+pub mod Tests
+pub mod Alignments
+pub mod Ways
+pub mod Facts
