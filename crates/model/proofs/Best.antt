@@ -10,7 +10,8 @@ use lib.Dec.{leb, ltb}
 use borrow.Author.Tests.{le-leb, lt-leb}
 use Rattle.model.specs.Marks.{Range, size}
 use Rattle.model.specs.Lists.{meets, Apart, Mem}
-use Rattle.model.specs.Calls.{Which, first, last, largest}
+use Rattle.units.specs.declared.Which.{Which}
+use Rattle.model.specs.Calls.{}
 use Rattle.model.specs.Reference.{lowest}
 use Rattle.model.specs.Steps.{shorter, first-fit, last-fit, longer, longest, fitting, choose, next-from}
 use Rattle.model.specs.Answers.{Better}
@@ -38,15 +39,15 @@ last-best n lo hi (s ∷ rs) r h e q m k = go (last-fit n rs) refl (λ f z. last
     go none p ih =
         by (leb n (size s))
         (λ f. let g : s ≡ r = cc in
-        rw (← g) (⊎-elim (λ z. rw z (omega arith)) (λ z. absurd (omega (arith, short-mem n rs q (choose-short last n rs p) z))) m))
+        rw (← g) (⊎-elim (λ z. rw z (omega arith)) (λ z. absurd (omega (arith, short-mem n rs q (choose-short Which.Last n rs p) z))) m))
         (λ f. none-some {r = r} (cc))
     go (some t) p ih =
         ⊎-elim
-        (λ z. rw z (omega (arith, h .1, mem-from (suc (s .limit)) hi rs r (h .3) (choose-mem last n rs r (cc) .0))))
+        (λ z. rw z (omega (arith, h .1, mem-from (suc (s .limit)) hi rs r (h .3) (choose-mem Which.Last n rs r (cc) .0))))
         (λ z. ih (cc) z) m
 
 abbrev Beats : Range → Range → Type 0
-Beats r q = Better largest r q
+Beats r q = Better Which.Largest r q
 
 longest-best : (lo hi : ℕ) (rs : List Range) (r : Range) → Apart lo hi rs → longest rs ≡ some r →
     (q : Range) → Mem q rs → Beats r q
@@ -56,7 +57,7 @@ longest-best lo hi (s ∷ rs) r h e q m = go (longest rs) refl (λ t f z. longes
     go : (o : Option Range) → longest rs ≡ o → ((t : Range) → longest rs ≡ some t → Mem q rs → Beats t q) → Beats r q
     go none p ih =
         let g : s ≡ r = cc in
-        rw (← g) (⊎-elim (λ z. rw z (inr (refl, omega arith))) (λ z. absurd (omega (arith, short-mem 0 rs q (choose-short largest 0 rs (rw p)) z))) m)
+        rw (← g) (⊎-elim (λ z. rw z (inr (refl, omega arith))) (λ z. absurd (omega (arith, short-mem 0 rs q (choose-short Which.Largest 0 rs (rw p)) z))) m)
     go (some t) p ih =
         by (shorter s t)
         (λ f. let g : t ≡ r = cc in
@@ -73,9 +74,9 @@ longest-best lo hi (s ∷ rs) r h e q m = go (longest rs) refl (λ t f z. longes
 -- what is chosen is the best of those that reach the size
 pub choose-best : (w : Which) (n lo hi : ℕ) (rs : List Range) (r : Range) → Apart lo hi rs → choose w n rs ≡ some r →
     (q : Range) → Mem q rs → n ≤ size q → Better w r q
-choose-best first n lo hi rs r h e q m k = first-best n lo hi rs r h e q m k
-choose-best last n lo hi rs r h e q m k = last-best n lo hi rs r h e q m k
-choose-best largest n lo hi rs r h e q m k = longest-best lo hi rs r h (fitting-some n (longest rs) r e .0) q m
+choose-best Which.First n lo hi rs r h e q m k = first-best n lo hi rs r h e q m k
+choose-best Which.Last n lo hi rs r h e q m k = last-best n lo hi rs r h e q m k
+choose-best Which.Largest n lo hi rs r h e q m k = longest-best lo hi rs r h (fitting-some n (longest rs) r e .0) q m
 
 -- THE WALK
 pub next-mem : (x : ℕ) (rs : List Range) (r : Range) → next-from x rs ≡ some r → Mem r rs × (x ≤ r .base)

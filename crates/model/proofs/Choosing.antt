@@ -10,7 +10,8 @@ use lib.Dec.{leb, ltb}
 use borrow.Author.Tests.{leb-true}
 use Rattle.model.specs.Marks.{Range, size}
 use Rattle.model.specs.Lists.{Apart, Mem}
-use Rattle.model.specs.Calls.{Which, first, last, largest}
+use Rattle.units.specs.declared.Which.{Which}
+use Rattle.model.specs.Calls.{}
 use Rattle.model.specs.Steps.{shorter, first-fit, last-fit, longer, longest, fitting, choose, next-from}
 use Rattle.model.specs.Answers.{Better}
 use Rattle.units.proofs.Tests.{by, tests}
@@ -55,9 +56,9 @@ fitting-some n (some t) r e =
     (λ f. none-some {r = r} (cc))
 
 pub choose-mem : (w : Which) (n : ℕ) (rs : List Range) (r : Range) → choose w n rs ≡ some r → Mem r rs × (n ≤ size r)
-choose-mem first n rs r e = first-mem n rs r e
-choose-mem last n rs r e = last-mem n rs r e
-choose-mem largest n rs r e =
+choose-mem Which.First n rs r e = first-mem n rs r e
+choose-mem Which.Last n rs r e = last-mem n rs r e
+choose-mem Which.Largest n rs r e =
     let f = fitting-some n (longest rs) r e in (longest-mem rs r (f .0), f .1)
 
 -- NOTHING IS CHOSEN WHERE EVERY RANGE IS SHORTER
@@ -110,6 +111,6 @@ largest-short n (r ∷ rs) e =
     (λ f. longest-short n (r ∷ rs) (longer r (longest rs)) refl (omega tests))
 
 pub choose-short : (w : Which) (n : ℕ) (rs : List Range) → choose w n rs ≡ none → Short n rs
-choose-short first n rs e = first-short n rs e
-choose-short last n rs e = last-short n rs e
-choose-short largest n rs e = largest-short n rs e
+choose-short Which.First n rs e = first-short n rs e
+choose-short Which.Last n rs e = last-short n rs e
+choose-short Which.Largest n rs e = largest-short n rs e

@@ -12,7 +12,8 @@ use borrow.Author.Tests.{le-ltb, le-leb, lt-leb}
 use Rattle.units.specs.declared.Mode.{Mode}
 use Rattle.model.specs.Marks.{Range, rng}
 use Rattle.model.specs.Lists.{Apart, Mem, delete-from, piece}
-use Rattle.model.specs.Calls.{Arena, Which, find, good-size, find-size}
+use Rattle.units.specs.declared.Which.{Which}
+use Rattle.model.specs.Calls.{Arena, find, good-size, find-size}
 use Rattle.model.specs.Steps.{list-ops, choose, part, fits, settle, taken, grant, step}
 use Rattle.model.specs.Lands.{Canon}
 use Rattle.model.specs.Answers.{SizeRules}

@@ -10,7 +10,8 @@ use lib.Dec.{ltb}
 use lib.ListN.{length}
 use borrow.Author.Tests.{ltb-true, lt-ltb, not-true}
 use Rattle.model.specs.Marks.{Range, size, Marks, Inside, Isolated, some-marked, every-marked}
-use Rattle.model.specs.Calls.{Arena, Which, Call, insert, delete, find, walk, good-range, good-size, find-size}
+use Rattle.units.specs.declared.Which.{Which}
+use Rattle.model.specs.Calls.{Arena, Call, insert, delete, find, walk, good-range, good-size, find-size}
 use Rattle.model.specs.Reference.{isolated, at-least, from, lowest, pick, too-many, reference}
 use Rattle.model.specs.Steps.{choose, next-from}
 use Rattle.model.specs.Answers.{Proper, Conflict, NoRange, Overfull, WouldOverfill, unbounded, Rows}

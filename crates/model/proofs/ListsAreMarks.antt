@@ -9,7 +9,8 @@ use lib.ListN.{length}
 use Rattle.units.specs.declared.Mode.{Mode}
 use Rattle.model.specs.Marks.{Range, rng, Marks, mark, unmark, runs}
 use Rattle.model.specs.Lists.{marksOf, overlaps, holds, holder, insert-in, delete-from}
-use Rattle.model.specs.Calls.{Arena, Which, Call, insert, delete, find, walk, Step, good-range, good-size, find-size}
+use Rattle.units.specs.declared.Which.{Which}
+use Rattle.model.specs.Calls.{Arena, Call, insert, delete, find, walk, Step, good-range, good-size, find-size}
 use Rattle.model.specs.Steps.{marks-ops, list-ops, part, fits, settle, taken, grant, visit, do-insert, do-delete, do-find, step, choose, next-from}
 use Rattle.model.specs.Lands.{Canon}
 use Rattle.model.specs.Answers.{RangeRules, SizeRules}

@@ -1,5 +1,5 @@
 -- The reference model gives each number exactly when its row of document 01's table says, and a refusal returns empty ranges and keeps the marks. Assumes nothing.
-use mathlib.Core.Path.{_≡_, refl, _∙_}
+use mathlib.Core.Path.{_≡_, refl}
 use mathlib.Core.Bool.{Bool, true, false, not, cond}
 use mathlib.Core.Logic.{_↔_, _≢_, _⊎_, inl, inr}
 use mathlib.Core.Option.{Option, none, some}
@@ -8,7 +8,8 @@ use native.Mathlib.Omega.{arith}
 use lib.ListN.{length}
 use Rattle.units.specs.declared.Mode.{Mode}
 use Rattle.model.specs.Marks.{Range, rng, Marks, Inside, mark, unmark, some-marked, every-marked}
-use Rattle.model.specs.Calls.{Arena, Which, first, last, largest, Call, insert, delete, find, walk, Step, good-range, good-size, find-size}
+use Rattle.units.specs.declared.Which.{Which}
+use Rattle.model.specs.Calls.{Arena, Call, insert, delete, find, walk, Step, good-range, good-size, find-size}
 use Rattle.model.specs.Reference.{isolated, around, acting, share, removed, too-many, stays, moves, serves, visits, reference, at-least, from, lowest, pick}
 use Rattle.model.specs.Answers.{Proper, Conflict, NoRange, WouldOverfill, unbounded, Rows, Refusal}
 use Rattle.units.proofs.Tests.{by, clash}
@@ -76,11 +77,6 @@ module _ (a : Arena) where
   visit-number m none = refl
   visit-number m (some r) = refl
 
-  size-unbounded : (w : Which) (n : ℕ) → good-size (unbounded a) w n ≡ good-size a w n
-  size-unbounded first n = refl
-  size-unbounded last n = refl
-  size-unbounded largest n = refl
-
   answer-number : (c : Call) (m : Marks) →
       reference a c m .out .answer ≡ number (proper a c) (conflict c m) (no-range a c m) (overfull a c m)
   answer-number (insert b l) m =
@@ -96,8 +92,7 @@ module _ (a : Arena) where
       (λ g. rw g)
   answer-number (find w n mode) m =
       by (good-size a w n)
-      (λ g. let u : good-size (unbounded a) w n ≡ true = size-unbounded w n ∙ g in
-      rw (g, u) (serve-number (acting w mode) (find-size a n) m (pick w (at-least (find-size a n) (isolated a m)))))
+      (λ g. rw g (serve-number (acting w mode) (find-size a n) m (pick w (at-least (find-size a n) (isolated a m)))))
       (λ g. rw g)
   answer-number (walk x) m = visit-number m (lowest (from x (isolated a m)))
 

@@ -9,7 +9,8 @@ use borrow.Author.Tests.{le-leb}
 use Rattle.units.specs.declared.Mode.{Mode}
 use Rattle.model.specs.Marks.{Range, rng, size}
 use Rattle.model.specs.Lists.{Apart, Aligned, Mem, holds}
-use Rattle.model.specs.Calls.{Arena, Which, first, last, largest}
+use Rattle.units.specs.declared.Which.{Which}
+use Rattle.model.specs.Calls.{Arena}
 use Rattle.model.specs.Steps.{end-part, part}
 use Rattle.model.specs.Answers.{SizeRules}
 use Rattle.model.proofs.Requests.{sum-aligned, difference-aligned}
@@ -85,6 +86,6 @@ module _ (al : ℕ) (rs : List Range) (r : Range) (t : Stands al rs r) where
 
 pub part-takes : (a : Arena) (w : Which) (mode : Mode) (n : ℕ) (rs : List Range) (r : Range) →
     Stands (a .align) rs r → n ≤ size r → SizeRules a w n → Takes (a .align) rs r (part w mode n r)
-part-takes a first mode n rs r t k z = end-takes (a .align) rs r t n k z mode
-part-takes a last mode n rs r t k z = end-takes (a .align) rs r t n k z mode
-part-takes a largest mode n rs r t k z = whole (a .align) rs r t
+part-takes a Which.First mode n rs r t k z = end-takes (a .align) rs r t n k z mode
+part-takes a Which.Last mode n rs r t k z = end-takes (a .align) rs r t n k z mode
+part-takes a Which.Largest mode n rs r t k z = whole (a .align) rs r t

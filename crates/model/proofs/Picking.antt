@@ -8,7 +8,8 @@ use native.Mathlib.Omega.{arith}
 use lib.Dec.{leb, ltb}
 use borrow.Author.Tests.{lt-ltb, le-ltb, le-leb, lt-leb}
 use Rattle.model.specs.Marks.{Range, size}
-use Rattle.model.specs.Calls.{Which, first, last, largest}
+use Rattle.units.specs.declared.Which.{Which}
+use Rattle.model.specs.Calls.{}
 use Rattle.model.specs.Reference.{at-least, from, lowest, highest, outdone, pick}
 use Rattle.model.specs.Steps.{fit, or-else, first-fit, last-fit, longer, longest, fitting, choose, next-from}
 use Rattle.units.proofs.Tests.{by, tests}
@@ -53,7 +54,7 @@ outdone-longest r [] = refl
 outdone-longest r (q ∷ rs) =
     outdone-longest (cond (ltb (size r) (size q)) q r) rs ∙ longer-longer r q (longest rs)
 
-pick-longest : (rs : List Range) → pick largest rs ≡ longest rs
+pick-longest : (rs : List Range) → pick Which.Largest rs ≡ longest rs
 pick-longest [] = refl
 pick-longest (r ∷ rs) = ap (λ (q : Range). some q) (outdone-longest r rs)
 
@@ -80,9 +81,9 @@ longest-fitting n (r ∷ rs) =
     (λ e. rw e (longest-fitting n rs ∙ fit-dropped n r (longest rs) e))
 
 pub pick-choose : (w : Which) (n : ℕ) (rs : List Range) → pick w (at-least n rs) ≡ choose w n rs
-pick-choose first n rs = pick-first n rs
-pick-choose last n rs = pick-last n rs
-pick-choose largest n rs = pick-longest (at-least n rs) ∙ longest-fitting n rs
+pick-choose Which.First n rs = pick-first n rs
+pick-choose Which.Last n rs = pick-last n rs
+pick-choose Which.Largest n rs = pick-longest (at-least n rs) ∙ longest-fitting n rs
 
 pub lowest-next : (x : ℕ) (rs : List Range) → lowest (from x rs) ≡ next-from x rs
 lowest-next x [] = refl

@@ -9,7 +9,8 @@ use lib.ListN.{length}
 use Rattle.units.specs.declared.Mode.{Mode}
 use Rattle.model.specs.Marks.{Range, rng}
 use Rattle.model.specs.Lists.{holder, overlaps, holds, insert-in, delete-from}
-use Rattle.model.specs.Calls.{Arena, Which, Call, insert, delete, find, walk, Step, good-range, good-size, find-size}
+use Rattle.units.specs.declared.Which.{Which}
+use Rattle.model.specs.Calls.{Arena, Call, insert, delete, find, walk, Step, good-range, good-size, find-size}
 use Rattle.model.specs.Steps.{Ops, list-ops, choose, next-from, part, fits, settle, taken, grant, visit, step}
 use Rattle.units.proofs.Tests.{by}
 

@@ -6,7 +6,8 @@ use Prim.Native.Nat.{ℕ, _+_, _-_, _≤_, _<_, _%_}
 use native.Mathlib.Omega.{arith}
 use native.Mathlib.Nat.{add-mod, zero-mod, mod-mod, add-zero}
 use Rattle.units.proofs.Facts.{range-facts, facts-range, size-facts, facts-size, largest-facts, facts-largest}
-use Rattle.model.specs.Calls.{Arena, Which, first, last, largest, good-range, good-size, find-size}
+use Rattle.units.specs.declared.Which.{Which}
+use Rattle.model.specs.Calls.{Arena, good-range, good-size, find-size}
 use Rattle.model.specs.Answers.{RangeRules, SizeRules}
 
 pub range-rules : (a : Arena) (b l : ℕ) → good-range a b l ≡ true → RangeRules a b l
@@ -31,14 +32,14 @@ rules-range a b l r =
     })
 
 pub size-rules : (a : Arena) (w : Which) (n : ℕ) → good-size a w n ≡ true → SizeRules a w n
-size-rules a first n g = size-facts (a .base) (a .limit) (a .align) n g
-size-rules a last n g = size-facts (a .base) (a .limit) (a .align) n g
-size-rules a largest n g = largest-facts (a .base) (a .limit) (a .align) n g
+size-rules a Which.First n g = size-facts (a .base) (a .limit) (a .align) n g
+size-rules a Which.Last n g = size-facts (a .base) (a .limit) (a .align) n g
+size-rules a Which.Largest n g = largest-facts (a .base) (a .limit) (a .align) n g
 
 pub rules-size : (a : Arena) (w : Which) (n : ℕ) → SizeRules a w n → good-size a w n ≡ true
-rules-size a first n r = facts-size (a .base) (a .limit) (a .align) n r
-rules-size a last n r = facts-size (a .base) (a .limit) (a .align) n r
-rules-size a largest n r = facts-largest (a .base) (a .limit) (a .align) n r
+rules-size a Which.First n r = facts-size (a .base) (a .limit) (a .align) n r
+rules-size a Which.Last n r = facts-size (a .base) (a .limit) (a .align) n r
+rules-size a Which.Largest n r = facts-largest (a .base) (a .limit) (a .align) n r
 
 -- the size that a find works with keeps the rules too, and is positive where the size asked for is
 pub find-size-rules : (a : Arena) (w : Which) (n : ℕ) → good-size a w n ≡ true → SizeRules a w (find-size a n)

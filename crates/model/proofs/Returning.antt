@@ -10,7 +10,8 @@ use lib.Dec.{leb}
 use borrow.Author.Tests.{leb-true, ltb-true}
 use Rattle.units.specs.declared.Mode.{Mode}
 use Rattle.model.specs.Marks.{Range, rng, size, within, Marks, Inside, Isolated, mark, unmark, some-marked, every-marked}
-use Rattle.model.specs.Calls.{Arena, Which, first, last, largest, Call, insert, delete, find, walk, Step, accepted, good-range, good-size, find-size}
+use Rattle.units.specs.declared.Which.{Which}
+use Rattle.model.specs.Calls.{Arena, Call, insert, delete, find, walk, Step, accepted, good-range, good-size, find-size}
 use Rattle.model.specs.Reference.{isolated, around, acting, share, removed, too-many, moves, serves, visits, reference, at-least, from, lowest, pick}
 use Rattle.model.specs.Steps.{choose, next-from}
 use Rattle.model.specs.Answers.{Turned, Contains, Chosen, EndPart, Part, Removes, Returns, Right}
@@ -52,12 +53,12 @@ end-part-right Mode.High n r k = (omega arith, refl)
 end-part-right Mode.Entire n r k = refl
 
 part-right : (w : Which) (mode : Mode) (n : ℕ) (r : Range) → n ≤ size r → Part w mode n r (share (acting w mode) n r)
-part-right first mode n r k = end-part-right mode n r k
-part-right last mode n r k = end-part-right mode n r k
-part-right largest Mode.None n r k = refl
-part-right largest Mode.Low n r k = refl
-part-right largest Mode.High n r k = refl
-part-right largest Mode.Entire n r k = refl
+part-right Which.First mode n r k = end-part-right mode n r k
+part-right Which.Last mode n r k = end-part-right mode n r k
+part-right Which.Largest Mode.None n r k = refl
+part-right Which.Largest Mode.Low n r k = refl
+part-right Which.Largest Mode.High n r k = refl
+part-right Which.Largest Mode.Entire n r k = refl
 
 -- what a mode removes
 end-removes : (mode : Mode) (m : Marks) (f : Range) → Removes mode m (removed mode m f) f
@@ -67,12 +68,12 @@ end-removes Mode.High m f = unmark-turned m (f .base) (f .limit)
 end-removes Mode.Entire m f = unmark-turned m (f .base) (f .limit)
 
 removes : (w : Which) (mode : Mode) (m : Marks) (f : Range) → Removes mode m (removed (acting w mode) m f) f
-removes first mode m f = end-removes mode m f
-removes last mode m f = end-removes mode m f
-removes largest Mode.None m f = λ x. refl
-removes largest Mode.Low m f = unmark-turned m (f .base) (f .limit)
-removes largest Mode.High m f = unmark-turned m (f .base) (f .limit)
-removes largest Mode.Entire m f = unmark-turned m (f .base) (f .limit)
+removes Which.First mode m f = end-removes mode m f
+removes Which.Last mode m f = end-removes mode m f
+removes Which.Largest Mode.None m f = λ x. refl
+removes Which.Largest Mode.Low m f = unmark-turned m (f .base) (f .limit)
+removes Which.Largest Mode.High m f = unmark-turned m (f .base) (f .limit)
+removes Which.Largest Mode.Entire m f = unmark-turned m (f .base) (f .limit)
 
 module _ (a : Arena) (m : Marks) (order : a .base ≤ a .limit) (i : Inside (a .base) (a .limit) m) where
   -- a step that moves and is answered 0 has moved

@@ -12,7 +12,8 @@ use Rattle.units.specs.declared.Mode.{Mode}
 use Rattle.units.proofs.Facts.{range-facts}
 use Rattle.model.specs.Marks.{Range, rng, Marks, mark, unmark, some-marked, every-marked, runs}
 use Rattle.model.specs.Lists.{holder}
-use Rattle.model.specs.Calls.{Arena, Which, first, last, largest, Call, insert, delete, find, walk, Step, good-range, good-size, find-size}
+use Rattle.units.specs.declared.Which.{Which}
+use Rattle.model.specs.Calls.{Arena, Call, insert, delete, find, walk, Step, good-range, good-size, find-size}
 use Rattle.model.specs.Reference.{isolated, around, share, acting, removed, too-many, moves, serves, visits, reference, at-least, pick, lowest, from}
 use Rattle.model.specs.Steps.{marks-ops, end-part, part, fits, settle, taken, grant, visit, step, choose, next-from}
 use Rattle.units.proofs.Tests.{by, tests}
@@ -36,12 +37,12 @@ end-share Mode.High n r = refl
 end-share Mode.Entire n r = refl
 
 pub part-share : (w : Which) (mode : Mode) (n : ℕ) (r : Range) → part w mode n r ≡ share (acting w mode) n r
-part-share first mode n r = end-share mode n r
-part-share last mode n r = end-share mode n r
-part-share largest Mode.None n r = refl
-part-share largest Mode.Low n r = refl
-part-share largest Mode.High n r = refl
-part-share largest Mode.Entire n r = refl
+part-share Which.First mode n r = end-share mode n r
+part-share Which.Last mode n r = end-share mode n r
+part-share Which.Largest Mode.None n r = refl
+part-share Which.Largest Mode.Low n r = refl
+part-share Which.Largest Mode.High n r = refl
+part-share Which.Largest Mode.Entire n r = refl
 
 -- some bytes that were put in are all marked
 pub put-marked : (m : Marks) (b l : ℕ) → b < l → every-marked (mark m b l) b (l - b) ≡ true
@@ -54,18 +55,18 @@ module _ (a : Arena) where
       rw (room-same (a .room) n) (sym (cond-not (fits (a .room) n) _ _))
 
   taken-removed : (w : Which) (mode : Mode) (m : Marks) (f : Range) → taken (marks-ops a) a mode m f ≡ removed (acting w mode) m f
-  taken-removed first Mode.None m f = refl
-  taken-removed first Mode.Low m f = refl
-  taken-removed first Mode.High m f = refl
-  taken-removed first Mode.Entire m f = refl
-  taken-removed last Mode.None m f = refl
-  taken-removed last Mode.Low m f = refl
-  taken-removed last Mode.High m f = refl
-  taken-removed last Mode.Entire m f = refl
-  taken-removed largest Mode.None m f = refl
-  taken-removed largest Mode.Low m f = refl
-  taken-removed largest Mode.High m f = refl
-  taken-removed largest Mode.Entire m f = refl
+  taken-removed Which.First Mode.None m f = refl
+  taken-removed Which.First Mode.Low m f = refl
+  taken-removed Which.First Mode.High m f = refl
+  taken-removed Which.First Mode.Entire m f = refl
+  taken-removed Which.Last Mode.None m f = refl
+  taken-removed Which.Last Mode.Low m f = refl
+  taken-removed Which.Last Mode.High m f = refl
+  taken-removed Which.Last Mode.Entire m f = refl
+  taken-removed Which.Largest Mode.None m f = refl
+  taken-removed Which.Largest Mode.Low m f = refl
+  taken-removed Which.Largest Mode.High m f = refl
+  taken-removed Which.Largest Mode.Entire m f = refl
 
   grant-serves : (w : Which) (mode : Mode) (n : ℕ) (m : Marks) (o : Option Range) →
       grant (marks-ops a) a w mode n m o ≡ serves a (acting w mode) n m o

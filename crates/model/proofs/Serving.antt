@@ -10,7 +10,8 @@ use lib.ListN.{length}
 use Rattle.units.specs.declared.Mode.{Mode}
 use Rattle.model.specs.Marks.{Range, rng, Marks, mark, unmark, some-marked, every-marked, Isolated}
 use Rattle.model.specs.Lists.{marksOf, holds, holder}
-use Rattle.model.specs.Calls.{Arena, Which, Call, insert, delete, find, walk, good-range, good-size, find-size}
+use Rattle.units.specs.declared.Which.{Which}
+use Rattle.model.specs.Calls.{Arena, Call, insert, delete, find, walk, good-range, good-size, find-size}
 use Rattle.model.specs.Reference.{isolated, around, acting, share, removed, too-many, moves, serves, visits, reference, at-least, from, lowest, pick}
 use Rattle.model.specs.Steps.{choose}
 use Rattle.model.specs.Lands.{Canon}

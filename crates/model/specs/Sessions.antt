@@ -4,7 +4,8 @@ use mathlib.Core.Option.{Option, none, some}
 use Prim.Native.Nat.{ℕ}
 use Rattle.units.specs.declared.Mode.{Mode}
 use Rattle.model.specs.Marks.{Range, rng, none-marked}
-use Rattle.model.specs.Calls.{Arena, first, largest, Call, insert, delete, find, Outcome, refused, accepted}
+use Rattle.units.specs.declared.Which.{Which}
+use Rattle.model.specs.Calls.{Arena, Call, insert, delete, find, Outcome, refused, accepted}
 use Rattle.model.specs.Layouts.{Rules}
 use Rattle.model.specs.Histories.{Seen, expected}
 use Rattle.model.specs.Lands.{list-rules, reference-rules}
@@ -30,7 +31,7 @@ sessions =
       arena = arena-of none;
       calls =
           insert 4096 4112 ∷ insert 4120 4128 ∷ insert 4112 4120 ∷ insert 4104 4136 ∷ delete 4104 4112
-          ∷ find first 16 Mode.Low ∷ find largest 0 Mode.None ∷ find first 16 Mode.None ∷ [];
+          ∷ find Which.First 16 Mode.Low ∷ find Which.Largest 0 Mode.None ∷ find Which.First 16 Mode.None ∷ [];
       ends =
           gives 4096 4112 ∷ gives 4120 4128 ∷ gives 4096 4128 ∷ refused 1 ∷ gives 4096 4128
           ∷ twice 4112 4128 ∷ twice 4096 4104 ∷ refused 2 ∷ [];

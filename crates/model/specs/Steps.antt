@@ -8,7 +8,8 @@ use lib.ListN.{length}
 use Rattle.units.specs.declared.Mode.{Mode}
 use Rattle.model.specs.Marks.{Range, rng, size, Marks, mark, unmark, some-marked, every-marked, runs}
 use Rattle.model.specs.Lists.{overlaps, holds, holder, insert-in, delete-from}
-use Rattle.model.specs.Calls.{Arena, Which, first, last, largest, Call, insert, delete, find, walk, Step, refused, accepted, good-range, good-size, find-size}
+use Rattle.units.specs.declared.Which.{Which}
+use Rattle.model.specs.Calls.{Arena, Call, insert, delete, find, walk, Step, refused, accepted, good-range, good-size, find-size}
 
 -- What a set of bytes can do: whether some or every byte of [b, l) is in it, the set with them and without them, its isolated ranges.
 pub record Ops (S : Type 0) : Type 0 where
@@ -69,9 +70,9 @@ fitting n none = none
 fitting n (some r) = fit n r
 
 abbrev pub choose : Which → ℕ → List Range → Option Range
-choose first n rs = first-fit n rs
-choose last n rs = last-fit n rs
-choose largest n rs = fitting n (longest rs)
+choose Which.First n rs = first-fit n rs
+choose Which.Last n rs = last-fit n rs
+choose Which.Largest n rs = fitting n (longest rs)
 
 -- Given any number, the isolated range of lowest base at or above it.
 abbrev pub next-from : ℕ → List Range → Option Range
@@ -86,9 +87,9 @@ end-part Mode.High n r = rng (r .limit - n) (r .limit)
 end-part Mode.Entire n r = r
 
 abbrev pub part : Which → Mode → ℕ → Range → Range
-part first mode n r = end-part mode n r
-part last mode n r = end-part mode n r
-part largest mode n r = r
+part Which.First mode n r = end-part mode n r
+part Which.Last mode n r = end-part mode n r
+part Which.Largest mode n r = r
 
 -- There is room for n ranges.
 abbrev pub fits : Option ℕ → ℕ → Bool

@@ -5,7 +5,9 @@ use mathlib.Core.Path.{_≡_, sym, _∙_}
 use native.Mathlib.Nat.{le-of-lt}
 use lib.Dec.{eqb, ltb, leb}
 use borrow.Author.Tests.{eq-eqb, ne-eqb, lt-ltb, le-ltb, le-leb, lt-leb, not-true, not-false}
-use Rattle.units.specs.Rules.{multiple, goodAlign, alignCheck, arenaCheck, rangeCheck, largestCheck, sizeCheck}
+use Rattle.units.specs.Rules.{multiple, goodAlign, alignCheck, arenaCheck, rangeCheck, largestCheck, sizeCheck, findCheck}
+use Rattle.units.specs.Words.{mayBegin, mayEnd}
+use Rattle.units.specs.declared.Which.{Which}
 use Rattle.units.specs.declared.rules.AlignCheck.{AlignCheck}
 use Rattle.units.specs.declared.rules.ArenaCheck.{ArenaCheck}
 use Rattle.units.specs.declared.rules.RangeCheck.{RangeCheck}
@@ -113,3 +115,43 @@ module _ (base limit a n : ℕ) where
   size-rest r z e = simp (z, e)
 
 pub ruleset size-ways = (told, largest-odd, largest-good, size-zero, size-rest)
+
+-- the size rule of each find
+module _ (base limit a n : ℕ) (w : Which) (r : SizeCheck) where
+  pub find-first : w ≡ Which.First → r ≡ sizeCheck base limit a n → r ≡ findCheck w base limit a n
+  find-first e f = rw e f
+
+  pub find-last : w ≡ Which.Last → r ≡ sizeCheck base limit a n → r ≡ findCheck w base limit a n
+  find-last e f = rw e f
+
+  pub find-largest : w ≡ Which.Largest → r ≡ largestCheck base limit a n → r ≡ findCheck w base limit a n
+  find-largest e f = rw e f
+
+pub ruleset find-ways = (find-first, find-last, find-largest)
+
+-- where a range of a list may begin and end
+module _ (l a low x : ℕ) where
+  pub begin-low : leb low x ≡ false → false ≡ mayBegin l a low x
+  unfolding mayBegin
+  begin-low p = simp p
+
+  pub begin-odd : multiple a x ≡ false → false ≡ mayBegin l a low x
+  unfolding mayBegin
+  begin-odd p = simp (p, and-false)
+
+  pub begin-here : (r : Bool) → leb low x ≡ true → multiple a x ≡ true → r ≡ ltb x l → r ≡ mayBegin l a low x
+  unfolding mayBegin
+  begin-here r p q e = simp (p, q, e)
+
+pub ruleset begin-ways = (told, begin-low, begin-odd, begin-here)
+
+module _ (l a e : ℕ) where
+  pub end-high : leb e l ≡ false → false ≡ mayEnd l a e
+  unfolding mayEnd
+  end-high p = simp p
+
+  pub end-here : (r : Bool) → leb e l ≡ true → r ≡ multiple a e → r ≡ mayEnd l a e
+  unfolding mayEnd
+  end-here r p q = simp (p, q)
+
+pub ruleset end-ways = (told, end-high, end-here)

@@ -3,6 +3,7 @@ use Prim.Native.Nat.{ℕ, zero, suc, _^_, _%_}
 use mathlib.Core.Bool.{Bool, true, false, not, cond, _&&_, _||_}
 use mathlib.Core.List.{List, [], _∷_}
 use lib.Dec.{eqb, ltb, leb}
+use Rattle.units.specs.declared.Which.{Which}
 use Rattle.units.specs.declared.rules.AlignCheck.{AlignCheck}
 use Rattle.units.specs.declared.rules.ArenaCheck.{ArenaCheck}
 use Rattle.units.specs.declared.rules.RangeCheck.{RangeCheck}
@@ -56,6 +57,12 @@ largestCheck base limit a n = cond (multiple a n) SizeCheck.Good SizeCheck.Unali
 -- Size 0 is allowed only for the largest.
 unfoldable pub sizeCheck : ℕ → ℕ → ℕ → ℕ → SizeCheck
 sizeCheck base limit a n = cond (eqb n 0) SizeCheck.Zero (largestCheck base limit a n)
+
+-- The size rule of each find.
+abbrev pub findCheck : Which → ℕ → ℕ → ℕ → ℕ → SizeCheck
+findCheck Which.First base limit a n = sizeCheck base limit a n
+findCheck Which.Last base limit a n = sizeCheck base limit a n
+findCheck Which.Largest base limit a n = largestCheck base limit a n
 
 -- The size that a find works with: the size asked for.
 abbrev pub findSize : ℕ → ℕ → ℕ

@@ -42,6 +42,13 @@ pub enum Mode {
     Entire,
 }
 
+// Which range a find looks for: of those that are long enough the first or the last, or the largest.
+pub enum Which {
+    First,
+    Last,
+    Largest,
+}
+
 impl Addr {
     // The address in a word, or of a number that was read.
     pub fn new(n: u64) -> Self

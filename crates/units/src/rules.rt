@@ -3,9 +3,11 @@ use crate::Addr;
 use crate::Align;
 use crate::Range;
 use crate::Size;
+use crate::Which;
 ghost use mathlib.Core.Path.{_≡_};
 ghost use Prim.Native.Nat.{_^_, _<_};
-ghost use Rattle.units.specs.Rules.{alignCheck, arenaCheck, rangeCheck, sizeCheck, largestCheck, findSize};
+ghost use Rattle.units.specs.Rules.{alignCheck, arenaCheck, rangeCheck, sizeCheck, largestCheck, findCheck, findSize};
+ghost use Rattle.units.specs.Words.{mayBegin, mayEnd};
 
 // The bytes from base up to limit, with an alignment.
 pub struct Arena {
@@ -133,11 +135,50 @@ impl Arena {
         self.check_largest(size)
     }
 
+    // Whether a find may ask for this size.
+    pub fn check_find(self, which: Which, size: Size) -> SizeCheck
+        requires { ⌜ 0 < self .align .0 ⌝ }
+        ensures { λ r. ⌜ r ≡ findCheck which (self .base .0) (self .limit .0) (self .align .0) (size .0) ⌝ }
+    {
+        match which {
+            Which::First => self.check_size(size),
+            Which::Last => self.check_size(size),
+            Which::Largest => self.check_largest(size),
+        }
+    }
+
     // The size that a find works with.
     pub fn find_size(self, size: Size) -> Size
         requires { ⌜ findSize (self .align .0) (size .0) < 2 ^ 64 ⌝ }
         ensures { λ r. ⌜ r .0 ≡ findSize (self .align .0) (size .0) ⌝ }
     {
         size
+    }
+
+    // Whether a range of a list may begin at `at`, where none may begin below `low`.
+    pub fn may_begin(self, low: Addr, at: Addr) -> bool
+        requires { ⌜ 0 < self .align .0 ⌝ }
+        ensures { λ r. ⌜ r ≡ mayBegin (self .limit .0) (self .align .0) (low .0) (at .0) ⌝ }
+    {
+        let x = at.0;
+        if x < low.0 {
+            return false;
+        }
+        if x % self.align.0 != 0 {
+            return false;
+        }
+        x < self.limit.0
+    }
+
+    // Whether a range of a list may end at `end`.
+    pub fn may_end(self, end: Addr) -> bool
+        requires { ⌜ 0 < self .align .0 ⌝ }
+        ensures { λ r. ⌜ r ≡ mayEnd (self .limit .0) (self .align .0) (end .0) ⌝ }
+    {
+        let e = end.0;
+        if self.limit.0 < e {
+            return false;
+        }
+        e % self.align.0 == 0
     }
 }
