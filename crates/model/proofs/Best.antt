@@ -109,7 +109,7 @@ pub next-first : (x lo hi : ℕ) (rs : List Range) → x ≤ lo → Apart lo hi 
 next-first x lo hi [] k h = refl
 next-first x lo hi (r ∷ rs) k h = rw (le-leb x (r .base) (omega arith))
 
-in-middle : (front : List Range) (r : Range) (rest : List Range) → Mem r (front ++ r ∷ rest)
+pub in-middle : (front : List Range) (r : Range) (rest : List Range) → Mem r (front ++ r ∷ rest)
 in-middle [] r rest = inl refl
 in-middle (q ∷ front) r rest = inr (in-middle front r rest)
 

@@ -23,3 +23,4 @@ pub mod Returning
 pub mod Calling
 pub mod Counting
 pub mod SessionsHold
+pub mod Places

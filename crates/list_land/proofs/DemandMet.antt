@@ -1,0 +1,56 @@
+-- Demand 3 of the list land: an instance of the theorem of `model`. Assumes nothing.
+use Prim.Native.Nat.{ℕ, suc, _+_, _-_, _*_, _/_, _%_, _<_, _≤_}
+use mathlib.Core.Bool.{Bool, true, false, not, _&&_, _||_, or-true}
+use mathlib.Core.List.{List, [], _∷_}
+use mathlib.Core.Path.{_≡_, refl, sym, ap, subst, _∙_}
+use native.Mathlib.Omega.{arith}
+use lib.Dec.{eqb}
+use lib.ListN.{length, getD}
+use borrow.Author.Tests.{eqb-true, eqb-false, not-true}
+use Rattle.units.specs.Words.{wordNumber}
+use Rattle.units.proofs.Tests.{by, tests, and-left, and-right, or-second}
+use Rattle.model.specs.Marks.{Range, size, within}
+use Rattle.model.specs.Lists.{Apart, Aligned, marksOf}
+use Rattle.model.specs.Layouts.{holding}
+use Rattle.model.proofs.Bytes.{in-yes}
+use Rattle.model.proofs.DemandMet.{demand-3}
+use Rattle.list_words.specs.Laying.{grain, described}
+use Rattle.list_land.specs.Layout.{base, setUp, readOf, closed, layout}
+use Rattle.list_land.specs.Calls.{newLand, openedOf}
+use Rattle.list_land.specs.Demand.{ListDemand3, HostMayWrite}
+use Rattle.list_land.specs.declared.ListLand.{ListLand}
+use Rattle.list_land.specs.declared.Opened.{Opened}
+use Rattle.list_land.proofs.Sound.{placed, Fine, fine}
+use Rattle.list_land.proofs.LayoutLaws.{reads, read-laid, list-laws}
+
+opened-good : (b l a : ℕ) (ws : List ℕ) → openedOf b l a ws .answer ≡ 0 → (setUp (newLand b l a) ws ≡ true) × (openedOf b l a ws .land ≡ newLand b l a)
+unfolding openedOf
+opened-good b l a ws e =
+    by (setUp (newLand b l a) ws)
+    (λ g. (g, rw g))
+    (λ g. let z : _≡_ {A = ℕ} 5 0 = rw g at e in absurd (omega arith))
+
+pub list-demand-3 : ListDemand3
+list-demand-3 b l a ws e cs os t =
+    let g = opened-good b l a ws e in
+    let h = newLand b l a in
+    demand-3 layout list-laws h ws [] (read-laid h ws [] (placed h ws (g .0)) (g .0) tt tt tt) cs os (rw (g .1) at t)
+
+-- a word of a descriptor is free
+described-free : (b lo hi : ℕ) (rs : List Range) (i : ℕ) → b ≤ lo → b % 8 ≡ 0 → Apart lo hi rs → Aligned 8 rs → described b rs i ≡ true →
+    marksOf rs (b + 8 * i) ≡ true
+described-free b lo hi [] i k z h a e = e
+described-free b lo hi (r ∷ rs) i k z h a e =
+    by (eqb i (wordNumber b (r .base)))
+    (λ f. let u = eqb-true i (wordNumber b (r .base)) f in rw (in-yes (r .base) (r .limit) (b + 8 * i) (omega arith) (omega arith)))
+    (λ f. by (not (grain r) && eqb i (wordNumber b (r .base + 8)))
+    (λ g. let u = eqb-true i (wordNumber b (r .base + 8)) (and-right (not (grain r)) _ g) in
+    let v = eqb-false (size r) 8 (not-true (grain r) (and-left _ _ g)) in
+    rw (in-yes (r .base) (r .limit) (b + 8 * i) (omega arith) (omega arith)))
+    (λ g. rw (described-free b (suc (r .limit)) hi rs i (omega arith) z (h .3) (a .2) (or-second _ _ (or-second _ _ e f) g), or-true)))
+
+pub host-may-write : HostMayWrite
+host-may-write h ws ws' rs e n f =
+    let p = reads h ws rs e in
+    let g = fine h ws (p .good) (p .whole) in
+    (n, λ i d. f i (described-free (base h) (base h) (h .limit .0) rs i (omega arith) (g .base8) (rw (p .same) at (g .apart)) (rw (p .same) at (g .aligned)) (rw e at d)))

@@ -1,0 +1,193 @@
+-- The ways out of a find in a sound list: 4, 2, the range as it stands, and a part of it taken out. Assumes nothing.
+use Prim.Native.Nat.{ℕ, suc, _+_, _-_, _≤_, _<_}
+use mathlib.Core.Bool.{Bool, true, false}
+use mathlib.Core.List.{List, [], _∷_, _++_}
+use mathlib.Core.Logic.{⊎-elim}
+use mathlib.Core.Option.{Option, none, some}
+use mathlib.Core.Path.{_≡_, refl, sym, ap, ap₂, _∙_}
+use native.Mathlib.Omega.{arith}
+use lib.Dec.{eqb, ltb}
+use lib.ListN.{length}
+use types.Run.{OneOf}
+use denote.Enum.Declared.{tagOf}
+use borrow.Author.Tests.{ne-eqb}
+use Rattle.units.specs.Rules.{findSize}
+use Rattle.units.specs.declared.Mode.{Mode}
+use Rattle.units.specs.declared.Range as units
+use Rattle.units.specs.declared.Size.{Size}
+use Rattle.units.specs.declared.Which.{Which}
+use Rattle.units.specs.declared.rules.Arena.{Arena}
+use Rattle.units.proofs.Alignments.{multiple-8}
+use Rattle.units.proofs.Mode as mode-type
+use Rattle.units.proofs.Tests.{clash}
+use Rattle.model.specs.Calls.{find, accepted, good-size, find-size}
+use Rattle.model.specs.Lists.{Apart, delete-from}
+use Rattle.model.specs.Marks.{Range, rng, size}
+use Rattle.model.specs.Steps.{list-ops, choose, part, taken, step}
+use Rattle.model.proofs.Best.{in-middle}
+use Rattle.model.proofs.Choosing.{choose-mem}
+use Rattle.model.proofs.Parts.{Takes, mem-stands, part-takes}
+use Rattle.model.proofs.Places.{apart-rest}
+use Rattle.model.proofs.Requests.{find-size-rules}
+use Rattle.list_words.specs.Laying.{lay}
+use Rattle.list_words.specs.declared.Aim.{Aim}
+use Rattle.list_words.specs.declared.Spot.{Spot}
+use Rattle.list_words.proofs.Aiming.{kept-find}
+use Rattle.list_words.proofs.Keeping.{struct, At, Behind, Placed}
+use Rattle.list_words.proofs.Laid.{lay-laid}
+use Rattle.list_land.specs.Calls.{found, foundOf, foundNone}
+use Rattle.list_land.specs.Cuts.{Cutting, cutLand, cutWords}
+use Rattle.list_land.specs.Layout.{base, limit, align, arenaOf, walkOf, closed}
+use Rattle.list_land.specs.Parts.{arenaIn, lookOf, Sought, findAim}
+use Rattle.list_land.specs.Shares.{Within, partOf}
+use Rattle.list_land.specs.declared.Found.{Found}
+use Rattle.list_land.specs.declared.ListLand.{ListLand}
+use Rattle.list_land.specs.declared.Look.{Look}
+use Rattle.list_land.proofs.Answers.{is-find, refuse-find, saw-sound}
+use Rattle.list_land.proofs.Cutting.{Cut, cut-done}
+use Rattle.list_land.proofs.LayoutLaws.{handle-back}
+use Rattle.list_land.proofs.Outcomes.{call-refused, call-accepted}
+use Rattle.list_land.proofs.Requests.{sought-fine}
+use Rattle.list_land.proofs.Sound.{Fine}
+
+-- the aim of the code is the one that the definition names
+pub find-sought : (h : ListLand) (ws : List ℕ) (w : Which) (n : Size) (a : Arena) → a ≡ arenaIn h → (m : Size) → m .0 ≡ findSize (a .align .0) (n .0) →
+    (v : Look) → v ≡ lookOf h ws (Aim.Find w m) → (s : Spot) → v ≡ Look.Sound s → Sought h ws (findAim h w n) s
+find-sought h ws w n a ea m em v ev s f =
+    let e : m .0 ≡ findSize (align h) (n .0) = em ∙ ap (λ (x : Arena). findSize (x .align .0) (n .0)) ea in
+    let g : v ≡ lookOf h ws (findAim h w n) = ev ∙ ap (λ (x : ℕ). lookOf h ws (Aim.Find w (record { 0 = x }))) e in
+    saw-sound h ws (findAim h w n) v g s f
+
+part-none : (w : Which) (n : ℕ) (r : Range) → part w Mode.None n r ≡ r
+part-none Which.First n r = refl
+part-none Which.Last n r = refl
+part-none Which.Largest n r = refl
+
+part-struct : (w : Which) (mode : Mode) (n : ℕ) (r : Range) → partOf w mode n (struct r) ≡ struct (part w mode n r)
+part-struct Which.First Mode.None n r = refl
+part-struct Which.First Mode.Low n r = refl
+part-struct Which.First Mode.High n r = refl
+part-struct Which.First Mode.Entire n r = refl
+part-struct Which.Last Mode.None n r = refl
+part-struct Which.Last Mode.Low n r = refl
+part-struct Which.Last Mode.High n r = refl
+part-struct Which.Last Mode.Entire n r = refl
+part-struct Which.Largest mode n r = refl
+
+-- the step of a find that removes nothing
+kept-step : (h : ListLand) (w : Which) (n : ℕ) (mode : Mode) (rs : List Range) (q : Range) → mode ≡ Mode.None → good-size (arenaOf h) w n ≡ true →
+    choose w (findSize (align h) n) rs ≡ some q → step list-ops (arenaOf h) (find w n mode) rs ≡ record { out = accepted q q; next = rs }
+kept-step h w n mode rs q m g c =
+    rw (g, c) (ap (λ (x : Mode). record { out = accepted (part w x (findSize (align h) n) q) q; next = taken list-ops (arenaOf h) x rs (part w x (findSize (align h) n) q) }) m
+    ∙ ap (λ (x : Range). record { out = accepted x q; next = rs }) (part-none w (findSize (align h) n) q))
+
+-- every mode but none takes the part out
+taken-out : (a : _) (mode : Mode) (rs : List Range) (f : Range) → OneOf (1 ∷ 2 ∷ 3 ∷ []) (tagOf mode-type.the-type mode) →
+    taken list-ops a mode rs f ≡ delete-from (f .base) (f .limit) rs
+taken-out a Mode.None rs f t = absurd (⊎-elim (λ x. omega arith) (⊎-elim (λ x. omega arith) (λ x. omega arith)) t)
+taken-out a Mode.Low rs f t = refl
+taken-out a Mode.High rs f t = refl
+taken-out a Mode.Entire rs f t = refl
+
+module _ (h : ListLand) (ws : List ℕ) (w : Which) (n : Size) (mode : Mode) (s : Spot) (k : Sought h ws (findAim h w n) s) where
+  abbrev met : List Range
+  met = walkOf h ws .met
+
+  abbrev want : ℕ
+  want = findSize (align h) (n .0)
+
+  abbrev Gives : Found → List ℕ → Type 0
+  Gives v ws' = (v ≡ foundOf (found h ws w (n .0) mode)) × (ws' ≡ found h ws w (n .0) mode .words)
+
+  fit : Fine h ws
+  fit = sought-fine h ws (findAim h w n) s k
+
+  pub find-4 : good-size (arenaOf h) w (n .0) ≡ false → (v : Found) → v ≡ foundNone h 4 → Gives v ws
+  find-4 g v e =
+      refuse-find h ws (found h ws w (n .0) mode) 4 (is-find h ws w (n .0) mode ∙ call-refused (find w (n .0) mode) h ws (k .good) (k .whole) 4 refl (rw g)) v e
+
+  module _ (g : good-size (arenaOf h) w (n .0) ≡ true) where
+    chosen : Placed met (choose w want met) s
+    chosen = rw (← k .kept) at (kept-find (base h) (limit h) met (fit .place .arena .above) (fit .apart) w (record { 0 = want }))
+
+    pub find-2 : (r : Bool) → r ≡ eqb (s .here .base .0) 0 → r ≡ true → (v : Found) → v ≡ foundNone h 2 → Gives v ws
+    find-2 r er t v e = go (choose w want met) refl chosen
+      where
+        go : (o : Option Range) → choose w want met ≡ o → Placed met o s → Gives v ws
+        go none f p =
+            refuse-find h ws (found h ws w (n .0) mode) 2
+            (is-find h ws w (n .0) mode ∙ call-refused (find w (n .0) mode) h ws (k .good) (k .whole) 2 refl (rw (g, f))) v e
+        go (some q) f p = clash (sym er ∙ t) (rw (p .here) (ne-eqb (q .base) 0 (λ z. omega (arith, p .above))))
+
+    module _ (r : Bool) (er : r ≡ eqb (s .here .base .0) 0) (t : r ≡ false) where
+      record Choice : Type 0 where
+        range : Range
+        at : At met range s
+        is : choose w want met ≡ some range
+        long : want ≤ size range
+        proper : range .base < range .limit
+
+      choice : Choice
+      choice = go (choose w want met) refl chosen
+        where
+          go : (o : Option Range) → choose w want met ≡ o → Placed met o s → Choice
+          go none f p = clash {t = eqb (s .here .base .0) 0} (rw (p .here)) (sym er ∙ t)
+          go (some q) f p =
+              let pr = apart-rest (base h) (limit h) (p .front) q (p .rest) (rw (p .split) at (fit .apart)) in
+              record { range = q; at = p; is = f; long = choose-mem w want met q f .1; proper = pr .1 }
+
+      abbrev q : Range
+      q = choice .range
+
+      pub find-within : (a : Arena) → a ≡ arenaIn h → (m : Size) → m .0 ≡ findSize (a .align .0) (n .0) → Within m (s .here)
+      find-within a ea m em =
+          let e : m .0 ≡ want = em ∙ ap (λ (x : Arena). findSize (x .align .0) (n .0)) ea in
+          let u = choice .long in
+          let v = choice .proper in
+          record { long = rw (choice .at .here) (omega arith) }
+
+      -- nothing is removed
+      pub find-kept : mode ≡ Mode.None → Gives (record { land = h; answer = 0; range = s .here; old = s .here }) ws
+      find-kept m =
+          let d = is-find h ws w (n .0) mode
+          ∙ call-accepted (find w (n .0) mode) h ws (k .good) (k .whole) q q met (kept-step h w (n .0) mode met q m g (choice .is)) in
+          let b = handle-back h ws met fit refl in
+          let e = choice .at .here in
+          (rw d (λ i. record { land = sym b i; answer = 0; range = e i; old = e i }), rw d (sym (lay-laid (base h) met ws (fit .laid))))
+
+      module _ (o : OneOf (1 ∷ 2 ∷ 3 ∷ []) (tagOf mode-type.the-type mode)) (a : Arena) (ea : a ≡ arenaIn h) (m : Size) (em : m .0 ≡ findSize (a .align .0) (n .0))
+          (y : units.Range) (ey : y ≡ partOf w mode (m .0) (s .here)) where
+        abbrev f : Range
+        f = part w mode want q
+
+        is-part : y ≡ struct f
+        is-part =
+            let e : m .0 ≡ want = em ∙ ap (λ (x : Arena). findSize (x .align .0) (n .0)) ea in
+            ey ∙ ap₂ (λ (x : ℕ) (v : units.Range). partOf w mode x v) e (choice .at .here) ∙ part-struct w mode want q
+
+        takes : Takes (align h) met q f
+        takes =
+            part-takes (arenaOf h) w mode want met q
+            (mem-stands (align h) (base h) (limit h) met q (fit .apart) (fit .straight) (choose-mem w want met q (choice .is) .0))
+            (choice .long) (find-size-rules (arenaOf h) w (n .0) g)
+
+        cut-part : Cut h ws fit q s (choice .at) (struct f) (takes .low) (takes .proper) (takes .high)
+            (multiple-8 (align h) (f .base) (fit .place .arena .align) (takes .base-aligned)) (multiple-8 (align h) (f .limit) (fit .place .arena .align) (takes .limit-aligned))
+        cut-part =
+            cut-done h ws fit q s (choice .at) (struct f) (takes .low) (takes .proper) (takes .high)
+            (multiple-8 (align h) (f .base) (fit .place .arena .align) (takes .base-aligned)) (multiple-8 (align h) (f .limit) (fit .place .arena .align) (takes .limit-aligned))
+
+        pub find-cutting : Cutting h (length ws) s y
+        find-cutting = rw is-part (cut-part .ready)
+
+        pub find-0 : (z : ListLand) (ws' : List ℕ) → (z ≡ cutLand h s y) × (ws' ≡ cutWords h ws s y) → Gives (record { land = z; answer = 0; range = y; old = s .here }) ws'
+        find-0 z ws' p =
+            let new = delete-from (f .base) (f .limit) met in
+            let d = is-find h ws w (n .0) mode
+            ∙ call-accepted (find w (n .0) mode) h ws (k .good) (k .whole) f q new (rw (g, choice .is, taken-out (arenaOf h) mode met f o)) in
+            let e1 : z ≡ closed h new = p .0 ∙ ap (cutLand h s) is-part ∙ cut-part .land in
+            let e2 = is-part in
+            let e3 = choice .at .here in (
+              rw d (λ i. record { land = e1 i; answer = 0; range = e2 i; old = e3 i }),
+              rw d (p .1 ∙ ap (cutWords h ws s) is-part ∙ cut-part .words),
+            )

@@ -1,0 +1,98 @@
+-- The list land's layout keeps the laws of a layout. Assumes nothing.
+use Prim.Native.Nat.{ℕ, suc, _+_, _-_, _*_, _/_, _%_, _<_, _≤_}
+use mathlib.Core.Bool.{Bool, true, false}
+use mathlib.Core.List.{List, [], _∷_}
+use mathlib.Core.Path.{_≡_, refl, sym, ap, subst, _∙_}
+use native.Mathlib.Omega.{arith}
+use lib.Dec.{eqb}
+use lib.ListN.{length, getD}
+use borrow.Author.Tests.{eq-eqb}
+use Rattle.units.proofs.Tests.{by}
+use Rattle.model.specs.Marks.{Range}
+use Rattle.model.specs.Lists.{Apart, Aligned, total}
+use Rattle.model.specs.Layouts.{Reading, fault, holding}
+use Rattle.model.specs.Lands as lands
+use Rattle.model.specs.Lands.{LandLaws}
+use Rattle.list_words.specs.Words.{addr, clean, soundWalk, walkFrom}
+use Rattle.list_words.specs.Laying.{head-of, lay}
+use Rattle.list_words.proofs.Laid.{Laid, length-lay, laid-lay, lay-laid, laid-host}
+use Rattle.list_words.proofs.Meeting.{walk-laid, aligned-8, few-words}
+use Rattle.list_land.specs.Layout.{base, limit, align, setUp, walkOf, sound, readOf, closed, layout}
+use Rattle.list_land.specs.declared.ListLand.{ListLand}
+use Rattle.list_land.proofs.Sound.{Placed, Fine, fine}
+
+-- what is read as rs
+pub record Reads (h : ListLand) (ws : List ℕ) (rs : List Range) : Type 0 where
+  pub good : setUp h ws ≡ true
+  pub whole : sound h ws ≡ true
+  pub same : walkOf h ws .met ≡ rs
+
+pub reads : (h : ListLand) (ws : List ℕ) (rs : List Range) → readOf h ws ≡ holding rs → Reads h ws rs
+unfolding readOf
+reads h ws rs e =
+    by (setUp h ws)
+    (λ g. by (sound h ws)
+    (λ s. record { good = g; whole = s; same = let q : holding (walkOf h ws .met) ≡ holding rs = rw (g, s) at e in cc })
+    (λ s. let q : fault 6 ≡ holding rs = rw (g, s) at e in let z : _≡_ {A = ℕ} 0 1 = cc in absurd (omega arith)))
+    (λ g. let q : fault 5 ≡ holding rs = rw g at e in let z : _≡_ {A = ℕ} 0 1 = cc in absurd (omega arith))
+
+-- descriptors in place are read
+pub read-laid : (h : ListLand) (ws : List ℕ) (rs : List Range) → Placed h (length ws) → setUp h ws ≡ true → Laid (base h) rs ws →
+    Apart (base h) (limit h) rs → Aligned (align h) rs → readOf (closed h rs) ws ≡ holding rs
+unfolding readOf setUp sound soundWalk walkFrom
+read-laid h ws rs p g d a s =
+    let f = p .arena in
+    let a8 = aligned-8 (align h) (f .align) rs s in
+    let m = few-words (base h) (limit h) (length ws) rs (p .words) a a8 in
+    let w = walk-laid (base h) (limit h) (align h) ws rs (length ws) (base h) m (f .above) a s a8 d in
+    rw (g, w, eq-eqb (length rs) (length rs) refl, eq-eqb (total rs) (total rs) refl)
+
+-- the handle of a sound list is the one that closes its ranges
+pub handle-back : (h : ListLand) (ws : List ℕ) (rs : List Range) → Fine h ws → walkOf h ws .met ≡ rs → closed h rs ≡ h
+handle-back h ws rs f e =
+    let p : head-of rs ≡ h .head .0 = rw e at (f .head) in
+    let c : length rs ≡ h .ranges = rw e at (sym (f .count)) in
+    let b : total rs ≡ h .bytes .0 = rw e at (sym (f .bytes)) in
+    λ i. record { base = h .base; limit = h .limit; align = h .align; head = addr (p i); ranges = c i; bytes = record { 0 = b i } }
+
+-- other words of the same number are set up as well
+same-set-up : (h : ListLand) (ws ws' : List ℕ) → length ws' ≡ length ws → setUp h ws ≡ true → setUp h ws' ≡ true
+unfolding setUp
+same-set-up h ws ws' n g = rw n g
+
+same-placed : (h : ListLand) (ws ws' : List ℕ) → length ws' ≡ length ws → Placed h (length ws) → Placed h (length ws')
+same-placed h ws ws' n p = rw n p
+
+pub list-laws : LandLaws layout
+list-laws = record {
+  sound = λ h ws rs e.
+      let p = reads h ws rs e in
+      let f = fine h ws (p .good) (p .whole) in
+      let c = f .count ∙ ap length (p .same) in
+      let b = f .bytes ∙ ap total (p .same) in (
+        record {
+          order = f .place .arena .order;
+          canon = record { apart = rw (p .same) at (f .apart); aligned = rw (p .same) at (f .straight) };
+          room = refl;
+        },
+        λ i. record { reads = e i; count = c i; bytes = b i },
+      );
+  read-write = λ h ws rs rs' e g.
+      let p = reads h ws rs e in
+      let f = fine h ws (p .good) (p .whole) in
+      let c = g .canon in
+      let n = length-lay (base h) rs' ws in
+      let a8 = aligned-8 (align h) (f .place .arena .align) rs' (c .aligned) in
+      read-laid h (lay (base h) rs' ws) rs' (same-placed h ws (lay (base h) rs' ws) n (f .place)) (same-set-up h ws (lay (base h) rs' ws) n (p .good))
+      (laid-lay (base h) (base h) (limit h) rs' ws (omega arith) (sym (f .place .words)) (f .base8) (c .apart) a8) (c .apart) (c .aligned);
+  arena-write = λ h ws rs. refl;
+  read-host = λ h ws ws' rs e m.
+      let p = reads h ws rs e in
+      let f = fine h ws (p .good) (p .whole) in
+      subst (λ (g : ListLand). readOf g ws' ≡ holding rs) (handle-back h ws rs f (p .same))
+      (read-laid h ws' rs (same-placed h ws ws' (m .0) (f .place)) (same-set-up h ws ws' (m .0) (p .good))
+      (laid-host (base h) rs ws ws' (λ i d. m .1 i (rw e d)) (rw (p .same) at (f .laid)))
+      (rw (p .same) at (f .apart)) (rw (p .same) at (f .straight)));
+  arena-host = λ h ws ws' m. refl;
+  host-idle = λ h ws. (refl, λ i d. refl);
+}

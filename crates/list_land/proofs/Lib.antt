@@ -1,0 +1,16 @@
+pub mod Sound
+pub mod LayoutLaws
+pub mod Outcomes
+pub mod Cutting
+pub mod Joining
+pub mod Standing
+pub mod Inserting
+pub mod Ways
+pub mod PlaceWays
+pub mod Answers
+pub mod Requests
+pub mod InsertAnswers
+pub mod DeleteAnswers
+pub mod FindAnswers
+pub mod WalkAnswers
+pub mod DemandMet

@@ -1,0 +1,62 @@
+-- `ListLand::cut` meets its contract. Assumes nothing.
+use Rattle.list_land.proofs.PlaceWays.{cut-ways}
+use borrow.Author.Needs.{needs}
+use Rattle.list_land.proofs.ListLand.cut.Statement.{statement}
+use Rattle.list_land.proofs.ListLand.cut.Tie as tie
+
+new-requires : tie.Need-new-requires
+new-requires c κs = search needs
+
+new-requires-2 : tie.Need-new-requires-2
+new-requires-2 c κs = search needs
+
+sub-ranges : tie.Need-sub-ranges
+sub-ranges c = search needs
+
+pieces-requires : tie.Need-pieces-requires
+pieces-requires c κs = search needs
+
+add-ranges : tie.Need-add-ranges
+add-ranges c = search needs
+
+pieces-requires-2 : tie.Need-pieces-requires-2
+pieces-requires-2 c κs = search needs
+
+add-ranges-2 : tie.Need-add-ranges-2
+add-ranges-2 c = search needs
+
+size-requires : tie.Need-size-requires
+size-requires c κs = search needs
+
+minus-requires : tie.Need-minus-requires
+minus-requires c κs = search needs
+
+store-requires : tie.Need-store-requires
+store-requires c κs = search cut-ways
+
+close-requires : tie.Need-close-requires
+close-requires c κs = search needs
+
+same-length : tie.Need-same-length
+same-length c = search needs
+
+returns : tie.Need-returns
+returns c = search cut-ways
+
+pub cut-spec : {M : Type 1} → statement M
+cut-spec =
+    tie.close
+    (tie.spec
+    new-requires
+    new-requires-2
+    sub-ranges
+    pieces-requires
+    add-ranges
+    pieces-requires-2
+    add-ranges-2
+    size-requires
+    minus-requires
+    store-requires
+    close-requires
+    same-length
+    returns)

@@ -1,0 +1,75 @@
+-- `ListLand::delete_at` meets its contract: 4, 1, and the range taken out. Assumes nothing.
+use mathlib.Core.Bool.{true}
+use mathlib.Core.Path.{_≡_}
+use borrow.Author.Needs.{needs}
+use Rattle.model.specs.Calls.{good-range}
+use Rattle.list_land.specs.Layout.{arenaOf}
+use Rattle.list_land.proofs.DeleteAnswers.{delete-4, delete-behind, delete-before, delete-cutting, delete-0}
+use Rattle.list_land.proofs.Requests.{sought-positive, range-bad, range-good}
+use Rattle.list_land.proofs.ListLand.delete_at.Statement.{statement}
+use Rattle.list_land.proofs.ListLand.delete_at.Tie as tie
+
+-- the request keeps the rules
+good : (k : tie.After-enum-told) → let a = k .before .before .before .before .before .args in good-range (arenaOf (a .self)) (a .range .base .0) (a .range .limit .0) ≡ true
+good k = range-good (k .before .before .before .before .before .args .self) (k .before .before .before .before .before .args .range) _ (k .before .before .before .arena .ensures) _ (k .before .before .check-range .ensures) (k .enum-told .given .1)
+
+arena-requires : tie.Need-arena-requires
+arena-requires c κs = search needs
+
+check-range-requires : tie.Need-check-range-requires
+check-range-requires c κs = search sought-positive
+
+enum-told : tie.Need-enum-told
+enum-told c = search needs
+
+refused-requires : tie.Need-refused-requires
+refused-requires c κs = search needs
+
+returns : tie.Need-returns
+returns c = delete-4 _ _ (c .before .before .before .before .before .args .range) _ (c .before .before .before .before .before .pre) (range-bad (c .before .before .before .before .before .args .self) (c .before .before .before .before .before .args .range) _ (c .before .before .before .arena .ensures) _ (c .before .before .check-range .ensures) (c .before .match .keys2)) _ (c .refused .ensures)
+
+is-zero-requires : tie.Need-is-zero-requires
+is-zero-requires c κs = search needs
+
+refused-requires-2 : tie.Need-refused-requires-2
+refused-requires-2 c κs = search needs
+
+returns-2 : tie.Need-returns-2
+returns-2 c = delete-behind _ _ (c .before .before .before .before .before .before .before .before .before .args .range) _ (c .before .before .before .before .before .before .before .before .before .pre) (good (c .before .before .before .before)) _ (c .before .before .is-zero .ensures) (c .before .if1 .taken) _ (c .refused2 .ensures)
+
+lt-requires : tie.Need-lt-requires
+lt-requires c κs = search needs
+
+refused-requires-3 : tie.Need-refused-requires-3
+refused-requires-3 c κs = search needs
+
+returns-3 : tie.Need-returns-3
+returns-3 c = delete-before _ _ (c .before .before .before .before .before .before .before .before .before .before .before .args .range) _ (c .before .before .before .before .before .before .before .before .before .before .before .pre) (good (c .before .before .before .before .before .before)) _ (c .before .before .before .before .is-zero .ensures) (c .before .before .before .if1 .left) _ (c .before .before .lt .ensures) (c .before .if2 .taken) _ (c .refused3 .ensures)
+
+cut-requires : tie.Need-cut-requires
+cut-requires c κs = delete-cutting _ _ (c .before .before .before .before .before .before .before .before .before .before .before .args .range) _ (c .before .before .before .before .before .before .before .before .before .before .before .pre) (good (c .before .before .before .before .before .before)) _ (c .before .before .before .before .is-zero .ensures) (c .before .before .before .if1 .left) _ (c .before .before .lt .ensures) (c .before .if2 .left)
+
+same-length : tie.Need-same-length
+same-length c = search needs
+
+returns-4 : tie.Need-returns-4
+returns-4 c = delete-0 _ _ (c .before .before .before .before .before .before .before .before .before .before .before .before .before .before .args .range) _ (c .before .before .before .before .before .before .before .before .before .before .before .before .before .before .pre) (good (c .before .before .before .before .before .before .before .before .before)) _ (c .before .before .before .before .before .before .before .is-zero .ensures) (c .before .before .before .before .before .before .if1 .left) _ (c .before .before .before .before .before .lt .ensures) (c .before .before .before .before .if2 .left) _ _ (c .before .before .cut .ensures)
+
+pub delete-at-spec : {M : Type 1} → statement M
+delete-at-spec =
+    tie.close
+    (tie.spec
+    arena-requires
+    check-range-requires
+    enum-told
+    refused-requires
+    returns
+    is-zero-requires
+    refused-requires-2
+    returns-2
+    lt-requires
+    refused-requires-3
+    returns-3
+    cut-requires
+    same-length
+    returns-4)

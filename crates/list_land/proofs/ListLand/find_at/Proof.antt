@@ -1,0 +1,79 @@
+-- `ListLand::find_at` meets its contract: 4, 2, the range as it stands, and a part of it taken out. Assumes nothing.
+use mathlib.Core.Bool.{true}
+use mathlib.Core.Path.{_≡_}
+use borrow.Author.Needs.{needs}
+use Rattle.model.specs.Calls.{good-size}
+use Rattle.list_land.specs.Layout.{arenaOf}
+use Rattle.list_land.proofs.FindAnswers.{find-4, find-2, find-within, find-kept, find-cutting, find-0}
+use Rattle.list_land.proofs.Requests.{sought-positive, size-bad, size-good}
+use Rattle.list_land.proofs.ListLand.find_at.Statement.{statement}
+use Rattle.list_land.proofs.ListLand.find_at.Tie as tie
+
+-- the size keeps the rules
+good : (k : tie.After-enum-told) → let a = k .before .before .before .before .before .args in good-size (arenaOf (a .self)) (a .which) (a .size .0) ≡ true
+good k = let a = k .before .before .before .before .before .args in size-good (a .self) (a .which) (a .size .0) _ (k .before .before .before .arena .ensures) _ (k .before .before .check-find .ensures) (k .enum-told .given .1)
+
+arena-requires : tie.Need-arena-requires
+arena-requires c κs = search needs
+
+check-find-requires : tie.Need-check-find-requires
+check-find-requires c κs = search sought-positive
+
+enum-told : tie.Need-enum-told
+enum-told c = search needs
+
+none-found-requires : tie.Need-none-found-requires
+none-found-requires c κs = search needs
+
+returns : tie.Need-returns
+returns c = find-4 _ _ (c .before .before .before .before .before .args .which) (c .before .before .before .before .before .args .size) (c .before .before .before .before .before .args .mode) _ (c .before .before .before .before .before .pre) (size-bad (c .before .before .before .before .before .args .self) (c .before .before .before .before .before .args .which) (c .before .before .before .before .before .args .size .0) _ (c .before .before .before .arena .ensures) _ (c .before .before .check-find .ensures) (c .before .match .keys2)) _ (c .none-found .ensures)
+
+is-zero-requires : tie.Need-is-zero-requires
+is-zero-requires c κs = search needs
+
+none-found-requires-2 : tie.Need-none-found-requires-2
+none-found-requires-2 c κs = search needs
+
+returns-2 : tie.Need-returns-2
+returns-2 c = find-2 _ _ (c .before .before .before .before .before .before .before .before .before .args .which) (c .before .before .before .before .before .before .before .before .before .args .size) (c .before .before .before .before .before .before .before .before .before .args .mode) _ (c .before .before .before .before .before .before .before .before .before .pre) (good (c .before .before .before .before)) _ (c .before .before .is-zero .ensures) (c .before .if1 .taken) _ (c .none-found2 .ensures)
+
+find-size-requires : tie.Need-find-size-requires
+find-size-requires c κs = search needs
+
+part-requires : tie.Need-part-requires
+part-requires c κs = find-within _ _ (c .before .before .before .before .before .before .before .before .before .args .which) (c .before .before .before .before .before .before .before .before .before .args .size) (c .before .before .before .before .before .before .before .before .before .args .mode) _ (c .before .before .before .before .before .before .before .before .before .pre) (good (c .before .before .before .before)) _ (c .before .before .is-zero .ensures) (c .before .if1 .left) _ (c .before .before .before .before .before .before .before .arena .ensures) _ (c .find-size .ensures)
+
+enum-told-2 : tie.Need-enum-told-2
+enum-told-2 c = search needs
+
+returns-3 : tie.Need-returns-3
+returns-3 c = find-kept _ _ (c .before .before .before .before .before .before .before .before .before .before .before .before .args .which) (c .before .before .before .before .before .before .before .before .before .before .before .before .args .size) (c .before .before .before .before .before .before .before .before .before .before .before .before .args .mode) _ (c .before .before .before .before .before .before .before .before .before .before .before .before .pre) (good (c .before .before .before .before .before .before .before)) _ (c .before .before .before .before .before .is-zero .ensures) (c .before .before .before .before .if1 .left) (c .enum-told2 .given .1)
+
+cut-requires : tie.Need-cut-requires
+cut-requires c κs = find-cutting _ _ (c .before .before .before .before .before .before .before .before .before .before .before .before .args .which) (c .before .before .before .before .before .before .before .before .before .before .before .before .args .size) (c .before .before .before .before .before .before .before .before .before .before .before .before .args .mode) _ (c .before .before .before .before .before .before .before .before .before .before .before .before .pre) (good (c .before .before .before .before .before .before .before)) _ (c .before .before .before .before .before .is-zero .ensures) (c .before .before .before .before .if1 .left) (c .before .match2 .keys2) _ (c .before .before .before .before .before .before .before .before .before .before .arena .ensures) _ (c .before .before .before .find-size .ensures) _ (c .before .before .part .ensures)
+
+same-length : tie.Need-same-length
+same-length c = search needs
+
+returns-4 : tie.Need-returns-4
+returns-4 c = find-0 _ _ (c .before .before .before .before .before .before .before .before .before .before .before .before .before .before .before .args .which) (c .before .before .before .before .before .before .before .before .before .before .before .before .before .before .before .args .size) (c .before .before .before .before .before .before .before .before .before .before .before .before .before .before .before .args .mode) _ (c .before .before .before .before .before .before .before .before .before .before .before .before .before .before .before .pre) (good (c .before .before .before .before .before .before .before .before .before .before)) _ (c .before .before .before .before .before .before .before .before .is-zero .ensures) (c .before .before .before .before .before .before .before .if1 .left) (c .before .before .before .before .match2 .keys2) _ (c .before .before .before .before .before .before .before .before .before .before .before .before .before .arena .ensures) _ (c .before .before .before .before .before .before .find-size .ensures) _ (c .before .before .before .before .before .part .ensures) _ _ (c .before .before .cut .ensures)
+
+pub find-at-spec : {M : Type 1} → statement M
+find-at-spec =
+    tie.close
+    (tie.spec
+    arena-requires
+    check-find-requires
+    enum-told
+    none-found-requires
+    returns
+    is-zero-requires
+    none-found-requires-2
+    returns-2
+    find-size-requires
+    part-requires
+    enum-told-2
+    returns-3
+    cut-requires
+    same-length
+    returns-4)

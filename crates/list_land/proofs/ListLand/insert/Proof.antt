@@ -1,0 +1,63 @@
+-- `ListLand::insert` meets its contract: 5, 6, and then the place. Assumes nothing.
+use borrow.Author.Needs.{needs}
+use Rattle.list_land.proofs.Answers.{saw-sound, is-insert, refuse-change, answers-5, answers-6}
+use borrow.Author.Needs.{needs}
+use Rattle.list_land.proofs.ListLand.insert.Statement.{statement}
+use Rattle.list_land.proofs.ListLand.insert.Tie as tie
+
+look-requires : tie.Need-look-requires
+look-requires c κs = search needs
+
+enum-told : tie.Need-enum-told
+enum-told c = search needs
+
+refused-requires : tie.Need-refused-requires
+refused-requires c κs = search needs
+
+enum-told-2 : tie.Need-enum-told-2
+enum-told-2 c = search needs
+
+refused-requires-2 : tie.Need-refused-requires-2
+refused-requires-2 c κs = search needs
+
+enum-known-s : tie.Need-enum-known-s
+enum-known-s c = search needs
+
+insert-at-requires : tie.Need-insert-at-requires
+insert-at-requires c κs = search saw-sound
+
+same-length : tie.Need-same-length
+same-length c = search needs
+
+returns : tie.Need-returns
+returns c = refuse-change _ _ _ 5 (answers-5 _ _ _ _ (c .before .before .before .look .ensures) _ _ (is-insert _ _ (c .before .before .before .before .before .before .before .args .range)) (c .before .enum-told .given .1)) _ (c .refused .ensures)
+
+same-length-2 : tie.Need-same-length-2
+same-length-2 c = search needs
+
+returns-2 : tie.Need-returns-2
+returns-2 c = refuse-change _ _ _ 6 (answers-6 _ _ _ _ (c .before .before .before .look .ensures) _ _ (is-insert _ _ (c .before .before .before .before .before .before .before .args .range)) (c .before .enum-told2 .given .1)) _ (c .refused2 .ensures)
+
+same-length-3 : tie.Need-same-length-3
+same-length-3 c = search needs
+
+returns-3 : tie.Need-returns-3
+returns-3 c = search needs
+
+pub insert-spec : {M : Type 1} → statement M
+insert-spec =
+    tie.close
+    (tie.spec
+    look-requires
+    enum-told
+    refused-requires
+    enum-told-2
+    refused-requires-2
+    enum-known-s
+    insert-at-requires
+    same-length
+    returns
+    same-length-2
+    returns-2
+    same-length-3
+    returns-3)

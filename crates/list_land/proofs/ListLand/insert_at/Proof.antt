@@ -1,0 +1,75 @@
+-- `ListLand::insert_at` meets its contract: 4, 1, and the range put in. Assumes nothing.
+use mathlib.Core.Bool.{true}
+use mathlib.Core.Path.{_≡_}
+use borrow.Author.Needs.{needs}
+use Rattle.model.specs.Calls.{good-range}
+use Rattle.list_land.specs.Layout.{arenaOf}
+use Rattle.list_land.proofs.InsertAnswers.{insert-4, insert-placing, insert-1, insert-putting, insert-0}
+use Rattle.list_land.proofs.Requests.{sought-positive, range-bad, range-good}
+use Rattle.list_land.proofs.ListLand.insert_at.Statement.{statement}
+use Rattle.list_land.proofs.ListLand.insert_at.Tie as tie
+
+-- the request keeps the rules
+good : (k : tie.After-enum-told) → let a = k .before .before .before .before .before .args in good-range (arenaOf (a .self)) (a .range .base .0) (a .range .limit .0) ≡ true
+good k = range-good (k .before .before .before .before .before .args .self) (k .before .before .before .before .before .args .range) _ (k .before .before .before .arena .ensures) _ (k .before .before .check-range .ensures) (k .enum-told .given .1)
+
+arena-requires : tie.Need-arena-requires
+arena-requires c κs = search needs
+
+check-range-requires : tie.Need-check-range-requires
+check-range-requires c κs = search sought-positive
+
+enum-told : tie.Need-enum-told
+enum-told c = search needs
+
+refused-requires : tie.Need-refused-requires
+refused-requires c κs = search needs
+
+returns : tie.Need-returns
+returns c = insert-4 _ _ (c .before .before .before .before .before .args .range) _ (c .before .before .before .before .before .pre) (range-bad (c .before .before .before .before .before .args .self) (c .before .before .before .before .before .args .range) _ (c .before .before .before .arena .ensures) _ (c .before .before .check-range .ensures) (c .before .match .keys2)) _ (c .refused .ensures)
+
+place-requires : tie.Need-place-requires
+place-requires c κs = insert-placing _ _ (c .before .before .before .before .before .before .args .range) _ (c .before .before .before .before .before .before .pre) (good (c .before))
+
+enum-known-p : tie.Need-enum-known-p
+enum-known-p c = search needs
+
+enum-told-2 : tie.Need-enum-told-2
+enum-told-2 c = search needs
+
+refused-requires-2 : tie.Need-refused-requires-2
+refused-requires-2 c κs = search needs
+
+same-length : tie.Need-same-length
+same-length c = search needs
+
+returns-2 : tie.Need-returns-2
+returns-2 c = insert-1 _ _ (c .before .before .before .before .before .before .before .before .before .before .args .range) _ (c .before .before .before .before .before .before .before .before .before .before .pre) (good (c .before .before .before .before .before)) _ (c .before .before .before .place .ensures) (c .before .enum-told2 .given .1) _ (c .refused2 .ensures)
+
+put-requires : tie.Need-put-requires
+put-requires c κs = insert-putting _ _ (c .before .before .before .before .before .before .before .before .before .before .before .args .range) _ (c .before .before .before .before .before .before .before .before .before .before .before .pre) (good (c .before .before .before .before .before .before)) _ (c .before .before .before .before .place .ensures) _ (c .before .before .p .given .1)
+
+same-length-2 : tie.Need-same-length-2
+same-length-2 c = search needs
+
+returns-3 : tie.Need-returns-3
+returns-3 c = insert-0 _ _ (c .before .before .before .before .before .before .before .before .before .before .before .before .before .before .args .range) _ (c .before .before .before .before .before .before .before .before .before .before .before .before .before .before .pre) (good (c .before .before .before .before .before .before .before .before .before)) _ (c .before .before .before .before .before .before .before .place .ensures) _ (c .before .before .before .before .before .p .given .1) _ _ (c .before .before .put .ensures)
+
+pub insert-at-spec : {M : Type 1} → statement M
+insert-at-spec =
+    tie.close
+    (tie.spec
+    arena-requires
+    check-range-requires
+    enum-told
+    refused-requires
+    returns
+    place-requires
+    enum-known-p
+    enum-told-2
+    refused-requires-2
+    same-length
+    returns-2
+    put-requires
+    same-length-2
+    returns-3)

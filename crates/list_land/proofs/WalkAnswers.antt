@@ -1,0 +1,71 @@
+-- The ways out of a walk in a sound list: 2, and the range met. Assumes nothing.
+use Prim.Native.Nat.{ℕ, _<_}
+use mathlib.Core.Bool.{Bool, true, false}
+use mathlib.Core.List.{List}
+use mathlib.Core.Option.{Option, none, some}
+use mathlib.Core.Path.{_≡_, refl, sym, ap, _∙_}
+use native.Mathlib.Omega.{arith}
+use lib.Dec.{eqb}
+use borrow.Author.Tests.{ne-eqb}
+use Rattle.units.specs.declared.Addr.{Addr}
+use Rattle.units.proofs.Tests.{clash}
+use Rattle.model.specs.Calls.{walk}
+use Rattle.model.specs.Marks.{Range, rng}
+use Rattle.model.specs.Steps.{next-from}
+use Rattle.list_words.specs.declared.Aim.{Aim}
+use Rattle.list_words.specs.declared.Spot.{Spot}
+use Rattle.list_words.proofs.Aiming.{kept-from}
+use Rattle.list_words.proofs.Keeping.{At, Behind, Placed}
+use Rattle.list_land.specs.Calls.{walked, changed, refusedBy}
+use Rattle.list_land.specs.Layout.{base, limit, walkOf}
+use Rattle.list_land.specs.Parts.{lookOf, Sought}
+use Rattle.list_land.specs.declared.Changed.{Changed}
+use Rattle.list_land.specs.declared.ListLand.{ListLand}
+use Rattle.list_land.specs.declared.Look.{Look}
+use Rattle.list_land.proofs.Answers.{is-walk, refuse-change, answers-5, answers-6, saw-sound}
+use Rattle.list_land.proofs.LayoutLaws.{handle-back}
+use Rattle.list_land.proofs.Outcomes.{call-refused, call-accepted}
+use Rattle.list_land.proofs.Requests.{sought-fine}
+use Rattle.list_land.proofs.Sound.{Fine}
+
+module _ (h : ListLand) (ws : List ℕ) (x : Addr) (v : Look) (e : v ≡ lookOf h ws (Aim.From x)) (w : Changed) where
+  pub walk-5 : v ≡ Look.BadSetUp → w ≡ refusedBy h 5 → w ≡ changed (walked h ws (x .0))
+  walk-5 f k = refuse-change h ws (walked h ws (x .0)) 5 (answers-5 h ws (Aim.From x) v e (walk (x .0)) (walked h ws (x .0)) (is-walk h ws (x .0)) f) w k .0
+
+  pub walk-6 : v ≡ Look.Damaged → w ≡ refusedBy h 6 → w ≡ changed (walked h ws (x .0))
+  walk-6 f k = refuse-change h ws (walked h ws (x .0)) 6 (answers-6 h ws (Aim.From x) v e (walk (x .0)) (walked h ws (x .0)) (is-walk h ws (x .0)) f) w k .0
+
+module _ (h : ListLand) (ws : List ℕ) (x : Addr) (v : Look) (e : v ≡ lookOf h ws (Aim.From x)) (s : Spot) (f : v ≡ Look.Sound s) (r : Bool) (er : r ≡ eqb (s .here .base .0) 0) where
+  abbrev met : List Range
+  met = walkOf h ws .met
+
+  found : Sought h ws (Aim.From x) s
+  found = saw-sound h ws (Aim.From x) v e s f
+
+  fit : Fine h ws
+  fit = sought-fine h ws (Aim.From x) s found
+
+  met-at : Placed met (next-from (x .0) met) s
+  met-at = rw (← found .kept) at (kept-from (base h) (limit h) met (fit .place .arena .above) (fit .apart) x)
+
+  pub walk-2 : r ≡ true → (w : Changed) → w ≡ refusedBy h 2 → w ≡ changed (walked h ws (x .0))
+  walk-2 t w k = go (next-from (x .0) met) refl met-at
+    where
+      go : (o : Option Range) → next-from (x .0) met ≡ o → Placed met o s → w ≡ changed (walked h ws (x .0))
+      go none g p =
+          refuse-change h ws (walked h ws (x .0)) 2
+          (is-walk h ws (x .0) ∙ call-refused (walk (x .0)) h ws (found .good) (found .whole) 2 refl (rw g)) w k .0
+      go (some q) g p = clash (sym er ∙ t) (rw (p .here) (ne-eqb (q .base) 0 (λ z. omega (arith, p .above))))
+
+  pub walk-0 : r ≡ false → record { land = h; answer = 0; range = s .here } ≡ changed (walked h ws (x .0))
+  walk-0 t = go (next-from (x .0) met) refl met-at
+    where
+      go : (o : Option Range) → next-from (x .0) met ≡ o → Placed met o s → record { land = h; answer = 0; range = s .here } ≡ changed (walked h ws (x .0))
+      go none g p = clash {t = eqb (s .here .base .0) 0} (rw (p .here)) (sym er ∙ t)
+      go (some q) g p =
+          let d = is-walk h ws (x .0) ∙ call-accepted (walk (x .0)) h ws (found .good) (found .whole) q (rng 0 0) met (rw g) in
+          let b = handle-back h ws met fit refl in
+          let u = p .here in
+          rw d (λ i. record { land = sym b i; answer = 0; range = u i })
+
+pub ruleset walk-ways = (walk-5, walk-6, walk-2, walk-0)

@@ -1,0 +1,62 @@
+-- What the calls of the list land equal. Assumes nothing.
+use Prim.Native.Nat.{ℕ}
+use mathlib.Core.Bool.{cond}
+use mathlib.Core.List.{List}
+use Rattle.units.specs.Words.{rangeOf}
+use Rattle.units.specs.declared.Mode.{Mode}
+use Rattle.units.specs.declared.Range.{Range}
+use Rattle.units.specs.declared.Which.{Which}
+use Rattle.model.specs.Marks as marks
+use Rattle.model.specs.Calls.{Outcome, insert, delete, find, walk}
+use Rattle.model.specs.Layouts.{Done}
+use Rattle.model.specs.Lands.{land-call}
+use Rattle.list_words.specs.Words.{addr}
+use Rattle.list_land.specs.Layout.{setUp, layout}
+use Rattle.list_land.specs.declared.ListLand.{ListLand}
+use Rattle.list_land.specs.declared.Opened.{Opened}
+use Rattle.list_land.specs.declared.Changed.{Changed}
+use Rattle.list_land.specs.declared.Found.{Found}
+
+abbrev pub LandDone : Type 0
+LandDone = Done Outcome ListLand (List ℕ)
+
+-- Insert and delete of a range, a find, the walk: the outcome, the next handle and the words.
+unfoldable pub inserted : ListLand → List ℕ → Range → LandDone
+inserted h ws y = land-call layout (insert (y .base .0) (y .limit .0)) h ws
+
+unfoldable pub deleted : ListLand → List ℕ → Range → LandDone
+deleted h ws y = land-call layout (delete (y .base .0) (y .limit .0)) h ws
+
+unfoldable pub found : ListLand → List ℕ → Which → ℕ → Mode → LandDone
+found h ws w n mode = land-call layout (find w n mode) h ws
+
+unfoldable pub walked : ListLand → List ℕ → ℕ → LandDone
+walked h ws x = land-call layout (walk x) h ws
+
+abbrev pub struct : marks.Range → Range
+struct r = rangeOf (r .base) (r .limit)
+
+-- What a call hands back of them.
+abbrev pub changed : LandDone → Changed
+changed d = record { land = d .handle; answer = d .out .answer; range = struct (d .out .found) }
+
+abbrev pub foundOf : LandDone → Found
+foundOf d = record { land = d .handle; answer = d .out .answer; range = struct (d .out .found); old = struct (d .out .old) }
+
+-- A new land has no ranges.
+abbrev pub newLand : ℕ → ℕ → ℕ → ListLand
+newLand b l a = record { base = addr b; limit = addr l; align = record { 0 = a }; head = addr 0; ranges = 0; bytes = record { 0 = 0 } }
+
+-- A handle that refuses to open has every field 0.
+unfoldable pub openedOf : ℕ → ℕ → ℕ → List ℕ → Opened
+openedOf b l a ws =
+    cond (setUp (newLand b l a) ws)
+    (record { land = newLand b l a; answer = 0 })
+    (record { land = newLand 0 0 0; answer = 5 })
+
+-- A refusal: the handle given and ranges (0, 0).
+abbrev pub refusedBy : ListLand → ℕ → Changed
+refusedBy h n = record { land = h; answer = n; range = rangeOf 0 0 }
+
+abbrev pub foundNone : ListLand → ℕ → Found
+foundNone h n = record { land = h; answer = n; range = rangeOf 0 0; old = rangeOf 0 0 }

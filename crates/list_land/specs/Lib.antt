@@ -1,0 +1,7 @@
+pub mod Layout
+pub mod Calls
+pub mod Parts
+pub mod Joins
+pub mod Cuts
+pub mod Shares
+pub mod Demand

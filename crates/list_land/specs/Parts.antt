@@ -1,0 +1,52 @@
+-- Contracts of the inner functions that every call uses. Assumes nothing.
+use Prim.Native.Nat.{ℕ}
+use mathlib.Core.Bool.{Bool, true, false, cond}
+use mathlib.Core.List.{List}
+use mathlib.Core.Path.{_≡_}
+use Rattle.units.specs.Rules.{findSize}
+use Rattle.units.specs.declared.Addr.{Addr}
+use Rattle.units.specs.declared.Range.{Range}
+use Rattle.units.specs.declared.Size.{Size}
+use Rattle.units.specs.declared.Which.{Which}
+use Rattle.units.specs.declared.rules.Arena.{Arena}
+use Rattle.list_words.specs.declared.Aim.{Aim}
+use Rattle.list_words.specs.declared.Chain.{Chain}
+use Rattle.list_words.specs.declared.Spot.{Spot}
+use Rattle.list_words.specs.Surveys.{kept-of}
+use Rattle.list_land.specs.declared.ListLand.{ListLand}
+use Rattle.list_land.specs.declared.Look.{Look}
+use Rattle.list_land.specs.declared.SetUp.{SetUp}
+use Rattle.list_land.specs.Layout.{align, setUp, walkOf, sound}
+
+abbrev pub arenaIn : ListLand → Arena
+arenaIn h = record { base = h .base; limit = h .limit; align = h .align }
+
+abbrev pub chainOf : ListLand → Chain
+chainOf h = record { head = h .head; ranges = h .ranges; bytes = h .bytes }
+
+abbrev pub setUpOf : Bool → SetUp
+setUpOf true = SetUp.Good
+setUpOf false = SetUp.Bad
+
+-- 5, then 6, then what the aim keeps of the list.
+unfoldable pub lookOf : ListLand → List ℕ → Aim → Look
+lookOf h ws aim =
+    cond (setUp h ws) (cond (sound h ws) (Look.Sound (kept-of aim (walkOf h ws .met))) Look.Damaged) Look.BadSetUp
+
+abbrev pub closedWith : ListLand → Addr → ℕ → Size → ListLand
+closedWith h head n s = record { base = h .base; limit = h .limit; align = h .align; head = head; ranges = n; bytes = s }
+
+-- A spot that an aim keeps of a sound list.
+pub record Sought (h : ListLand) (ws : List ℕ) (aim : Aim) (s : Spot) : Type 0 where
+  pub good : setUp h ws ≡ true
+  pub whole : sound h ws ≡ true
+  pub kept : s ≡ kept-of aim (walkOf h ws .met)
+
+abbrev pub reachBase : Range → Aim
+reachBase y = Aim.Reach (y .base)
+
+abbrev pub reachLimit : Range → Aim
+reachLimit y = Aim.Reach (y .limit)
+
+abbrev pub findAim : ListLand → Which → Size → Aim
+findAim h w n = Aim.Find w (record { 0 = findSize (align h) (n .0) })

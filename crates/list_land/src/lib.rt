@@ -1,0 +1,188 @@
+// The list land: a set of free ranges of an arena, recorded in the free memory itself.
+//
+// Every call takes every handle, every lent memory and every number. A refused call returns empty ranges and the handle
+// that it was given, and changes no word. Every function here is proved, and the crate assumes nothing of its own.
+mod delete;
+mod find;
+mod insert;
+
+use list_words::Aim;
+use list_words::Chain;
+use list_words::Spot;
+use list_words::Verdict;
+use units::Addr;
+use units::Align;
+use units::Arena;
+use units::ArenaCheck;
+use units::Range;
+use units::Size;
+ghost use mathlib.Core.Path.{_≡_};
+ghost use Rattle.list_land.specs.Layout.{setUp};
+ghost use Rattle.list_land.specs.Calls.{refusedBy, changed, walked, openedOf};
+ghost use Rattle.list_land.specs.Parts.{arenaIn, chainOf, setUpOf, lookOf, closedWith};
+
+// The handle of a list land: its arena, the first range's base (or 0), the number of ranges and of free bytes.
+#[repr(C)]
+pub struct ListLand {
+    pub base: Addr,
+    pub limit: Addr,
+    pub align: Align,
+    pub head: Addr,
+    pub ranges: u64,
+    pub bytes: Size,
+}
+
+// What an opening returns.
+#[repr(C)]
+pub struct Opened {
+    pub land: ListLand,
+    pub answer: u64,
+}
+
+// What insert, delete and walk return: the next handle, the answer's number, and the range.
+#[repr(C)]
+pub struct Changed {
+    pub land: ListLand,
+    pub answer: u64,
+    pub range: Range,
+}
+
+// What a find returns: the next handle, the answer's number, the range found, and the range that it was found in.
+#[repr(C)]
+pub struct Found {
+    pub land: ListLand,
+    pub answer: u64,
+    pub range: Range,
+    pub old: Range,
+}
+
+// Whether the fixed fields and the lent length keep the arena rules.
+pub enum SetUp {
+    Good,
+    Bad,
+}
+
+// What a call finds before it looks at its request: a bad set-up, a list that is not sound, or the range aimed at.
+pub enum Look {
+    BadSetUp,
+    Damaged,
+    Sound(Spot),
+}
+
+fn refused(land: ListLand, answer: u64) -> Changed
+    ensures { λ r. ⌜ r ≡ refusedBy land answer ⌝ }
+{
+    Changed {
+        land,
+        answer,
+        range: Range::none(),
+    }
+}
+
+impl ListLand {
+    fn arena(self) -> Arena
+        ensures { λ r. ⌜ r ≡ arenaIn self ⌝ }
+    {
+        let base = self.base;
+        let limit = self.limit;
+        let align = self.align;
+        Arena { base, limit, align }
+    }
+
+    fn chain(self) -> Chain
+        ensures { λ r. ⌜ r ≡ chainOf self ⌝ }
+    {
+        let head = self.head;
+        let bytes = self.bytes;
+        Chain {
+            head,
+            ranges: self.ranges,
+            bytes,
+        }
+    }
+
+    fn set_up(self, words: &[u64]) -> SetUp
+        ensures { λ r. ⌜ r ≡ setUpOf (setUp self (now (words .entry))) ⌝ }
+    {
+        let ArenaCheck::Good = self.arena().check() else {
+            return SetUp::Bad;
+        };
+        if self.limit.word_from(self.base) == words.len() {
+            SetUp::Good
+        } else {
+            SetUp::Bad
+        }
+    }
+
+    // The one walk of a call.
+    fn look(self, words: &[u64], aim: Aim) -> Look
+        ensures { λ r. ⌜ r ≡ lookOf self (now (words .entry)) aim ⌝ }
+    {
+        let SetUp::Good = self.set_up(words) else {
+            return Look::BadSetUp;
+        };
+        match list_words::survey(self.arena(), words, self.chain(), aim) {
+            Verdict::Damaged => Look::Damaged,
+            Verdict::Sound(spot) => Look::Sound(spot),
+        }
+    }
+
+    // The next handle of every accepted call.
+    fn close(mut self, head: Addr, ranges: u64, bytes: Size) -> ListLand
+        ensures { λ r. ⌜ r ≡ closedWith self head ranges bytes ⌝ }
+    {
+        self.head = head;
+        self.ranges = ranges;
+        self.bytes = bytes;
+        self
+    }
+
+    // Opens a land with no ranges on the arena [base, limit), whose words are lent. No word is written.
+    pub fn open(base: Addr, limit: Addr, align: Align, words: &[u64]) -> Opened
+        ensures { λ r. ⌜ r ≡ openedOf (base .0) (limit .0) (align .0) (now (words .entry)) ⌝ }
+    {
+        let land = ListLand {
+            base,
+            limit,
+            align,
+            head: Addr::new(0),
+            ranges: 0,
+            bytes: Size::new(0),
+        };
+        let SetUp::Good = land.set_up(words) else {
+            return Opened {
+                land: ListLand {
+                    base: Addr::new(0),
+                    limit: Addr::new(0),
+                    align: Align::new(0),
+                    head: Addr::new(0),
+                    ranges: 0,
+                    bytes: Size::new(0),
+                },
+                answer: 5,
+            };
+        };
+        Opened { land, answer: 0 }
+    }
+
+    // The isolated range of lowest base at or above `from`. Going on from each range's limit meets every range once.
+    pub fn walk(self, words: &[u64], from: Addr) -> Changed
+        ensures { λ r. ⌜ r ≡ changed (walked self (now (words .entry)) (from .0)) ⌝ }
+    {
+        match self.look(words, Aim::From(from)) {
+            Look::BadSetUp => refused(self, 5),
+            Look::Damaged => refused(self, 6),
+            Look::Sound(spot) => {
+                let here = spot.here;
+                if here.base.is_zero() {
+                    return refused(self, 2);
+                }
+                Changed {
+                    land: self,
+                    answer: 0,
+                    range: here,
+                }
+            }
+        }
+    }
+}

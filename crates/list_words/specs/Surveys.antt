@@ -1,0 +1,108 @@
+-- What the walk over the whole list keeps: contracts of inner functions. Assumes nothing.
+use Prim.Native.Nat.{ℕ, _+_, _-_, _/_, _≤_, _<_}
+use mathlib.Core.Bool.{Bool, true, false, not, cond, _&&_, _||_}
+use mathlib.Core.List.{List, [], _∷_}
+use mathlib.Core.Path.{_≡_}
+use lib.Dec.{eqb, ltb, leb}
+use Rattle.units.specs.declared.Addr.{Addr}
+use Rattle.units.specs.declared.Range.{Range}
+use Rattle.units.specs.declared.Which.{Which}
+use Rattle.units.specs.declared.rules.Arena.{Arena}
+use Rattle.units.specs.declared.rules.ArenaCheck.{ArenaCheck}
+use Rattle.units.specs.Rules.{arenaCheck}
+use Rattle.units.specs.Words.{wordNumber, rangeOf}
+use Rattle.model.specs.Marks as marks
+use Rattle.list_words.specs.declared.Aim.{Aim}
+use Rattle.list_words.specs.declared.Chain.{Chain}
+use Rattle.list_words.specs.declared.Cursor.{Cursor}
+use Rattle.list_words.specs.declared.Spot.{Spot}
+use Rattle.list_words.specs.declared.Verdict.{Verdict}
+use Rattle.list_words.specs.Words.{addr, Walk, walkFrom, soundWalk}
+use Rattle.list_words.specs.Laying.{head-of}
+
+-- The set-up is good: an arena, and as many words as it has.
+pub record Ready (a : Arena) (n : ℕ) : Type 0 where
+  pub arena : arenaCheck (a .base .0) (a .limit .0) (a .align .0) ≡ ArenaCheck.Good
+  pub words : wordNumber (a .base .0) (a .limit .0) ≡ n
+
+-- The walk of an arena's words from a place.
+abbrev pub walkIn : Arena → List ℕ → ℕ → ℕ → Walk
+walkIn a ws low x = walkFrom (a .base .0) (a .limit .0) (a .align .0) ws low x
+
+-- The walk from head.
+abbrev pub walkOf : Arena → List ℕ → ℕ → Walk
+walkOf a ws head = walkIn a ws (a .base .0) head
+
+-- Two ranges whose sizes are taken.
+pub record Sized (kept here : Range) : Type 0 where
+  pub kept-order : kept .base .0 ≤ kept .limit .0
+  pub here-order : here .base .0 ≤ here .limit .0
+
+abbrev pub length-of : Range → ℕ
+length-of r = r .limit .0 - r .base .0
+
+abbrev pub isNone : Range → Bool
+isNone r = eqb (r .base .0) 0
+
+-- Of two ranges long enough, the later is kept.
+abbrev pub beats : Which → Range → Range → Bool
+beats Which.First kept here = false
+beats Which.Last kept here = true
+beats Which.Largest kept here = ltb (length-of kept) (length-of here)
+
+-- Whether a walk that has kept one range keeps another instead.
+abbrev pub takes : Aim → Range → Range → Bool
+takes (Aim.Reach x) kept here = isNone kept && leb (x .0) (here .limit .0)
+takes (Aim.From x) kept here = isNone kept && leb (x .0) (here .base .0)
+takes (Aim.Find w n) kept here = not (ltb (length-of here) (n .0)) && (isNone kept || beats w kept here)
+
+abbrev pub spot : Range → Range → Addr → Spot
+spot p r n = record { prev = p; here = r; next = n }
+
+abbrev pub kept-on : Aim → Range → Spot → Range → Addr → Spot
+kept-on aim p k r n = cond (takes aim (k .here) r) (spot p r n) k
+
+-- A cursor one range further on.
+abbrev pub onward : Cursor → Aim → ℕ → Addr → Cursor
+onward c aim e n = record {
+  prev = rangeOf (c .at .0) e;
+  low = addr (e + 1);
+  at = n;
+  count = c .count + 1;
+  bytes = record { 0 = c .bytes .0 + (e - c .at .0) };
+  kept = kept-on aim (c .prev) (c .kept) (rangeOf (c .at .0) e) n;
+}
+
+-- A range that ends at e follows a cursor, and no number grows too large.
+pub record Near (c : Cursor) (e : ℕ) : Type 0 where
+  pub above : c .at .0 ≤ e
+  pub end : e < 18446744073709551615
+  pub count : c .count < 18446744073709551615
+  pub bytes : c .bytes .0 + (e - c .at .0) < 18446744073709551616
+  pub kept : c .kept .here .base .0 ≤ c .kept .here .limit .0
+
+abbrev pub none-range : Range
+none-range = rangeOf 0 0
+
+-- What is kept at the end, behind the range p.
+abbrev pub at-end : Range → Spot → Spot
+at-end p k = cond (isNone (k .here)) (spot p none-range (addr 0)) k
+
+-- What is kept of the ranges rs behind p.
+abbrev pub keeping : Aim → Range → Spot → List marks.Range → Spot
+keeping aim p k [] = at-end p k
+keeping aim p k (r ∷ rs) =
+    keeping aim (rangeOf (r .base) (r .limit)) (kept-on aim p k (rangeOf (r .base) (r .limit)) (addr (head-of rs))) rs
+
+abbrev pub no-spot : Spot
+no-spot = spot none-range none-range (addr 0)
+
+-- What the aim keeps of a whole list.
+abbrev pub kept-of : Aim → List marks.Range → Spot
+kept-of aim rs = keeping aim none-range no-spot rs
+
+-- What a survey finds.
+unfoldable pub surveyOf : Arena → List ℕ → Chain → Aim → Verdict
+surveyOf a ws c aim =
+    cond (soundWalk (walkOf a ws (c .head .0)) (c .ranges) (c .bytes .0))
+    (Verdict.Sound (kept-of aim (walkOf a ws (c .head .0) .met))) Verdict.Damaged
