@@ -20,6 +20,7 @@ use Rattle.units.proofs.Tests.{by, clash}
 use Rattle.model.specs.Marks as marks
 use Rattle.model.specs.Calls.{Call, insert, delete, find, walk, refused, accepted}
 use Rattle.model.specs.Lands.{land-call}
+use Rattle.model.specs.Layouts.{Reading, fault, holding}
 use Rattle.model.specs.Steps.{next-from}
 use Rattle.list_words.specs.Surveys.{kept-of, none-range}
 use Rattle.list_words.specs.declared.Aim.{Aim}
@@ -27,9 +28,9 @@ use Rattle.list_words.specs.declared.Spot.{Spot}
 use Rattle.list_words.proofs.Aiming.{kept-from}
 use Rattle.list_words.proofs.Keeping.{At, Behind, Placed}
 use Rattle.list_words.proofs.Laid.{lay-laid}
-use Rattle.list_land.specs.Calls.{LandDone, inserted, deleted, found, walked, struct, changed, foundOf, refusedBy, foundNone}
-use Rattle.list_land.specs.Layout.{base, limit, setUp, walkOf, sound, closed, layout}
-use Rattle.list_land.specs.Parts.{lookOf, Sought}
+use Rattle.list_land.specs.Calls.{LandDone, inserted, deleted, found, walked, changed, foundOf, refusedBy, foundNone}
+use Rattle.list_land.specs.Layout.{base, limit, setUp, walkOf, sound, readOf, closed, layout}
+use Rattle.list_land.specs.Parts.{lookNumber, lookOf, Sought}
 use Rattle.list_land.specs.declared.Changed.{Changed}
 use Rattle.list_land.specs.declared.Found.{Found}
 use Rattle.list_land.specs.declared.ListLand.{ListLand}
@@ -66,6 +67,16 @@ module _ (h : ListLand) (ws : List ℕ) (aim : Aim) (v : Look) (e : v ≡ lookOf
       (λ b. let q : v ≡ Look.Sound (kept-of aim (walkOf h ws .met)) = rw (a, b) at e in record { good = a; whole = b; kept = cc })
       (λ b. let q : v ≡ Look.Damaged = rw (a, b) at e in let z : _≡_ {A = ℕ} 0 1 = cc in absurd (omega arith)))
       (λ a. let q : v ≡ Look.BadSetUp = rw a at e in let z : _≡_ {A = ℕ} 0 1 = cc in absurd (omega arith))
+
+-- the number of a look is the number that the handle and the words are read with
+pub fault-number : Reading (List marks.Range) → ℕ
+fault-number (fault n) = n
+fault-number (holding rs) = 0
+
+pub look-number : (h : ListLand) (ws : List ℕ) (aim : Aim) → lookNumber (lookOf h ws aim) ≡ fault-number (readOf h ws)
+unfolding lookOf readOf fault-number
+look-number h ws aim =
+    by (setUp h ws) (λ a. by (sound h ws) (λ b. rw (a, b)) (λ b. rw (a, b))) (λ a. rw a)
 
 -- each call is a call of the layout
 pub is-insert : (h : ListLand) (ws : List ℕ) (y : Range) → inserted h ws y ≡ land-call layout (insert (y .base .0) (y .limit .0)) h ws

@@ -14,12 +14,12 @@ use Rattle.model.proofs.Best.{in-middle}
 use Rattle.model.proofs.Deleting.{delete-apart, delete-aligned}
 use Rattle.model.proofs.Parts.{mem-stands}
 use Rattle.model.proofs.Places.{apart-rest, total-append, remains, delete-at, length-piece, total-piece}
-use Rattle.list_words.specs.Words.{addr}
+use Rattle.list_words.specs.Words.{addr, struct}
 use Rattle.list_words.specs.Laying.{head-of, lay}
 use Rattle.list_words.specs.Edits.{EditRoom, storeHead, storeWords}
 use Rattle.list_words.specs.declared.Spot.{Spot}
 use Rattle.list_words.proofs.Laid.{Laid, laid-rest}
-use Rattle.list_words.proofs.Keeping.{struct, At}
+use Rattle.list_words.proofs.Keeping.{At}
 use Rattle.list_words.proofs.Editing.{edited, Stored, stored}
 use Rattle.list_land.specs.Layout.{base, limit, align, walkOf, closed}
 use Rattle.list_land.specs.Cuts.{one, cutEdit, Cutting, cutLand, cutWords}

@@ -17,10 +17,11 @@ use Rattle.model.specs.Marks.{Range, rng}
 use Rattle.model.specs.Answers.{RangeRules}
 use Rattle.model.proofs.Places.{Before, apart-rest, holds-below, holder-below, holder-here, holds-above}
 use Rattle.model.proofs.Requests.{range-rules}
+use Rattle.list_words.specs.Words.{struct}
 use Rattle.list_words.specs.Laying.{lay}
 use Rattle.list_words.specs.declared.Spot.{Spot}
 use Rattle.list_words.proofs.Aiming.{reach, kept-reach, reach-none, reach-some}
-use Rattle.list_words.proofs.Keeping.{struct, At, Behind, Placed}
+use Rattle.list_words.proofs.Keeping.{At, Behind, Placed}
 use Rattle.list_land.specs.Calls.{deleted, changed, refusedBy}
 use Rattle.list_land.specs.Cuts.{Cutting, cutLand, cutWords}
 use Rattle.list_land.specs.Layout.{base, limit, align, arenaOf, walkOf, closed}

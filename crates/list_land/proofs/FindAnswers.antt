@@ -29,11 +29,12 @@ use Rattle.model.proofs.Choosing.{choose-mem}
 use Rattle.model.proofs.Parts.{Takes, mem-stands, part-takes}
 use Rattle.model.proofs.Places.{apart-rest}
 use Rattle.model.proofs.Requests.{find-size-rules}
+use Rattle.list_words.specs.Words.{struct}
 use Rattle.list_words.specs.Laying.{lay}
 use Rattle.list_words.specs.declared.Aim.{Aim}
 use Rattle.list_words.specs.declared.Spot.{Spot}
 use Rattle.list_words.proofs.Aiming.{kept-find}
-use Rattle.list_words.proofs.Keeping.{struct, At, Behind, Placed}
+use Rattle.list_words.proofs.Keeping.{At, Behind, Placed}
 use Rattle.list_words.proofs.Laid.{lay-laid}
 use Rattle.list_land.specs.Calls.{found, foundOf, foundNone}
 use Rattle.list_land.specs.Cuts.{Cutting, cutLand, cutWords}

@@ -15,12 +15,12 @@ use Rattle.model.specs.Lists.{Apart, Aligned, total, overlaps, holder, insert-i
 use Rattle.model.specs.Answers.{RangeRules}
 use Rattle.model.proofs.Inserting.{insert-apart, insert-aligned}
 use Rattle.model.proofs.Places.{total-append, insert-front, overlaps-front, holder-front, holder-here}
-use Rattle.list_words.specs.Words.{addr}
+use Rattle.list_words.specs.Words.{addr, struct}
 use Rattle.list_words.specs.Laying.{head-of, lay}
 use Rattle.list_words.specs.Edits.{plain, storeHead}
 use Rattle.list_words.specs.declared.Spot.{Spot}
 use Rattle.list_words.proofs.Laid.{Laid}
-use Rattle.list_words.proofs.Keeping.{struct, Last}
+use Rattle.list_words.proofs.Keeping.{Last}
 use Rattle.list_words.proofs.Editing.{edited, Stored, stored}
 use Rattle.list_land.specs.Layout.{base, limit, align, arenaOf, walkOf, closed}
 use Rattle.list_land.specs.Joins.{joinOf, placeOf, putEdit, Putting, putChanged, putWords}

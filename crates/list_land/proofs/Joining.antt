@@ -13,12 +13,11 @@ use Rattle.units.proofs.Tests.{by, tests}
 use Rattle.model.specs.Marks.{Range, rng, size}
 use Rattle.model.specs.Lists.{Apart, total, overlaps, insert-in}
 use Rattle.model.proofs.Places.{overlaps-above, insert-apart-of, insert-join}
-use Rattle.list_words.specs.Words.{addr}
+use Rattle.list_words.specs.Words.{addr, struct}
 use Rattle.list_words.specs.Laying.{head-of}
 use Rattle.list_words.specs.Surveys.{isNone, none-range}
 use Rattle.list_words.specs.Edits.{plain}
 use Rattle.list_words.specs.declared.Spot.{Spot}
-use Rattle.list_words.proofs.Keeping.{struct}
 use Rattle.list_words.proofs.Laid.{Laid}
 use Rattle.list_land.specs.Joins.{joinOf, free}
 use Rattle.list_land.specs.declared.insert.Join.{Join}

@@ -14,13 +14,13 @@ use Rattle.units.proofs.Tests.{by, tests}
 use Rattle.model.specs.Marks.{Range}
 use Rattle.model.specs.Lists.{Apart, Aligned, total, overlaps, insert-in}
 use Rattle.model.proofs.Places.{Before, apart-rest, aligned-rest, insert-below}
-use Rattle.list_words.specs.Words.{addr, stepAt}
+use Rattle.list_words.specs.Words.{addr, stepAt, struct}
 use Rattle.list_words.specs.Laying.{head-of}
 use Rattle.list_words.specs.Surveys.{spot, none-range, kept-of}
 use Rattle.list_words.specs.declared.Met.{Met}
 use Rattle.list_words.specs.declared.Spot.{Spot}
 use Rattle.list_words.proofs.Aiming.{reach, kept-reach, reach-none, reach-some}
-use Rattle.list_words.proofs.Keeping.{struct, Last, At, Behind, Placed}
+use Rattle.list_words.proofs.Keeping.{Last, At, Behind, Placed}
 use Rattle.list_words.proofs.Laid.{Laid, laid-rest, even-head}
 use Rattle.list_words.proofs.Meeting.{told-step}
 use Rattle.list_land.specs.Layout.{base, limit, align, walkOf}

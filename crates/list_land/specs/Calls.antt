@@ -6,11 +6,10 @@ use Rattle.units.specs.Words.{rangeOf}
 use Rattle.units.specs.declared.Mode.{Mode}
 use Rattle.units.specs.declared.Range.{Range}
 use Rattle.units.specs.declared.Which.{Which}
-use Rattle.model.specs.Marks as marks
 use Rattle.model.specs.Calls.{Outcome, insert, delete, find, walk}
 use Rattle.model.specs.Layouts.{Done}
 use Rattle.model.specs.Lands.{land-call}
-use Rattle.list_words.specs.Words.{addr}
+use Rattle.list_words.specs.Words.{addr, struct}
 use Rattle.list_land.specs.Layout.{setUp, layout}
 use Rattle.list_land.specs.declared.ListLand.{ListLand}
 use Rattle.list_land.specs.declared.Opened.{Opened}
@@ -32,9 +31,6 @@ found h ws w n mode = land-call layout (find w n mode) h ws
 
 unfoldable pub walked : ListLand → List ℕ → ℕ → LandDone
 walked h ws x = land-call layout (walk x) h ws
-
-abbrev pub struct : marks.Range → Range
-struct r = rangeOf (r .base) (r .limit)
 
 -- What a call hands back of them.
 abbrev pub changed : LandDone → Changed

@@ -35,6 +35,11 @@ followingOf h ws s =
     cond (eqb (s .next .0) 0) (spot (s .here) none-range (s .next))
     (metAfter s (stepAt (base h) (limit h) (align h) ws (s .here .limit .0 + 1) (s .next .0)))
 
+-- Document 01's number of each case: 1 where some byte is already free.
+abbrev pub placeNumber : Place → ℕ
+placeNumber Place.Overlap = 1
+placeNumber (Place.Free j) = 0
+
 -- The place of a fresh range before the range above it.
 abbrev pub free : Range → Range → Spot → ℕ → Place
 free p f s joins = Place.Free (record { prev = p; fresh = f; next = s .next; joins = joins })

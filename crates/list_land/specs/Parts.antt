@@ -28,6 +28,12 @@ abbrev pub setUpOf : Bool → SetUp
 setUpOf true = SetUp.Good
 setUpOf false = SetUp.Bad
 
+-- Document 01's number of each case: 5, 6, or 0.
+abbrev pub lookNumber : Look → ℕ
+lookNumber Look.BadSetUp = 5
+lookNumber Look.Damaged = 6
+lookNumber (Look.Sound s) = 0
+
 -- 5, then 6, then what the aim keeps of the list.
 unfoldable pub lookOf : ListLand → List ℕ → Aim → Look
 lookOf h ws aim =

@@ -21,10 +21,11 @@ use Rattle.model.proofs.Best.{in-middle}
 use Rattle.model.proofs.Choosing.{none-some}
 use Rattle.model.proofs.Picking.{pick-choose}
 use Rattle.model.proofs.Places.{Before}
+use Rattle.list_words.specs.Words.{struct}
 use Rattle.list_words.specs.Surveys.{isNone, takes, none-range, kept-of}
 use Rattle.list_words.specs.declared.Aim.{Aim}
 use Rattle.list_words.specs.declared.Spot.{Spot}
-use Rattle.list_words.proofs.Keeping.{struct, Placed, pick-by, kept-placed}
+use Rattle.list_words.proofs.Keeping.{Placed, pick-by, kept-placed}
 
 -- the first range whose limit is at or above x
 abbrev pub reach : ℕ → List Range → Option Range

@@ -13,14 +13,14 @@ use Rattle.units.proofs.Tests.{by}
 use Rattle.model.specs.Marks.{Range, rng}
 use Rattle.model.specs.Lists.{Apart, Aligned, piece}
 use Rattle.model.proofs.Places.{apart-rest, aligned-rest}
-use Rattle.list_words.specs.Words.{addr}
+use Rattle.list_words.specs.Words.{addr, struct}
 use Rattle.list_words.specs.Laying.{head-of, describe, lay}
 use Rattle.list_words.specs.Surveys.{none-range}
 use Rattle.list_words.specs.Edits.{Room, RoomOf, PieceRoom, plain, pieceHead, pieceWords, upperHead, firstHead, EditRoom, storeHead, pieces, storeWords}
 use Rattle.list_words.specs.declared.Edit.{Edit}
 use Rattle.list_words.proofs.Laid.{Laid, lay-laid}
 use Rattle.list_words.proofs.Overlay.{lay-prefix, head-prefix}
-use Rattle.list_words.proofs.Keeping.{struct, Last, first, later}
+use Rattle.list_words.proofs.Keeping.{Last, first, later}
 
 -- a range of the code, if it is not empty, before a list
 abbrev pub before : units.Range → List Range → List Range

@@ -18,14 +18,11 @@ use Rattle.model.specs.Lists.{Apart}
 use Rattle.model.specs.Reference.{at-least, outdone, pick}
 use Rattle.model.specs.Steps.{fit, or-else, first-fit, last-fit, choose, next-from}
 use Rattle.model.proofs.Picking.{pick-choose}
-use Rattle.list_words.specs.Words.{addr}
+use Rattle.list_words.specs.Words.{addr, struct}
 use Rattle.list_words.specs.Laying.{head-of}
 use Rattle.list_words.specs.Surveys.{isNone, takes, spot, kept-on, none-range, no-spot, at-end, keeping, kept-of}
 use Rattle.list_words.specs.declared.Aim.{Aim}
 use Rattle.list_words.specs.declared.Spot.{Spot}
-
-abbrev pub struct : Range → units.Range
-struct r = rangeOf (r .base) (r .limit)
 
 -- the range before a place: the last of those in front, or none
 pub data Last : List Range → units.Range → Type 0 where

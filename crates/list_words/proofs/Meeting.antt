@@ -1,4 +1,4 @@
--- What a walk that ends cleanly has met: ranges whose descriptors are in place, apart, aligned and in the arena; and it meets whatever is laid. Assumes nothing.
+-- What a walk that ends cleanly has met: ranges whose descriptors are in place, apart, aligned and in the arena; and it found-then whatever is laid. Assumes nothing.
 use Prim.Native.Nat.{ℕ, zero, suc, _+_, _-_, _*_, _/_, _%_, _<_, _≤_}
 use mathlib.Core.Bool.{Bool, true, false, cond, _&&_}
 use mathlib.Core.List.{List, [], _∷_}
@@ -15,7 +15,7 @@ use Rattle.units.proofs.Alignments.{multiple-8}
 use Rattle.model.specs.Marks.{Range, rng, size}
 use Rattle.model.specs.Lists.{Apart, Aligned}
 use Rattle.model.proofs.Bytes.{apart-from}
-use Rattle.list_words.specs.Words.{addr, Ending, clean, bad-base, bad-descriptor, Walk, ends, meets, wordAt, tagAt, nextAt, stepAt, after, walkFor, walkFrom}
+use Rattle.list_words.specs.Words.{addr, Ending, clean, bad-base, bad-descriptor, Walk, ends, found-then, wordAt, tagAt, nextAt, stepAt, after, walkFor, walkFrom}
 use Rattle.list_words.specs.Laying.{head-of, grain}
 use Rattle.list_words.specs.declared.Met.{Met}
 use Rattle.list_words.proofs.Walking.{Stepped, stepped}
@@ -109,7 +109,7 @@ module _ (b l a : ℕ) (ws : List ℕ) where
       let w : n - 0 ≡ n = omega arith in
       simp (le-leb low (r .base) p, eq-eqb (r .base % a) 0 u, lt-ltb (r .base) l (omega arith), e, ev, f, le-leb (r .limit) l s, eq-eqb (r .limit % a) 0 v, le-leb (r .base + 16) (r .limit) k, w))
 
-  -- the walk over descriptors in place meets their ranges
+  -- the walk over descriptors in place found-then their ranges
   pub walk-laid : (rs : List Range) (n low : ℕ) → length rs ≤ n → 0 < low → Apart low l rs → Aligned a rs → Aligned 8 rs → Laid b rs ws →
       walkFor b l a ws n low (head-of rs) ≡ record { met = rs; end = clean }
   unfolding walkFor

@@ -10,7 +10,7 @@ use borrow.Author.Tests.{eqb-true}
 use Rattle.units.specs.Words.{mayBegin, mayEnd}
 use Rattle.units.specs.declared.Addr.{Addr}
 use Rattle.units.proofs.Tests.{by, conj}
-use Rattle.list_words.specs.Words.{addr, clean, Walk, ends, meets, wordAt, tagAt, nextAt, stepAt, after, walkFor, walkFrom}
+use Rattle.list_words.specs.Words.{addr, clean, Walk, ends, found-then, wordAt, tagAt, nextAt, stepAt, after, walkFor, walkFrom}
 use Rattle.list_words.specs.Laying.{head-of}
 use Rattle.list_words.specs.declared.Met.{Met}
 
@@ -94,7 +94,7 @@ module _ (b l a : ℕ) (ws : List ℕ) where
   same-after : (low x : ℕ) (k k' : ℕ → ℕ → Walk) → ((e n : ℕ) → x + 8 ≤ e → low ≤ x → k (e + 1) n ≡ k' (e + 1) n) →
       (m : Met) → stepAt b l a ws low x ≡ m → after b l a ws x m k ≡ after b l a ws x m k'
   same-after low x k k' h (Met.Found e n) q =
-      let f = stepped low x e n q in ap (meets x (e .0)) (h (e .0) (n .0) (f .room) (f .above))
+      let f = stepped low x e n q in ap (found-then x (e .0)) (h (e .0) (n .0) (f .room) (f .above))
   same-after low x k k' h Met.BadBase q = refl
   same-after low x k k' h Met.BadDescriptor q = refl
 
@@ -117,7 +117,7 @@ module _ (b l a : ℕ) (ws : List ℕ) where
   -- by the test for an end and what is met there
   module _ (low x : ℕ) (h : l ≤ low + 8 * length ws) where
     pub walk-found : eqb x 0 ≡ false → (e n : Addr) → stepAt b l a ws low x ≡ Met.Found e n →
-        walkFrom b l a ws low x ≡ meets x (e .0) (walkFrom b l a ws (e .0 + 1) (n .0))
+        walkFrom b l a ws low x ≡ found-then x (e .0) (walkFrom b l a ws (e .0 + 1) (n .0))
     walk-found k e n s = rw (walk-step low x h, k, s)
 
     pub walk-bad : eqb x 0 ≡ false → (m : Met) → stepAt b l a ws low x ≡ m → ((e n : Addr) → m ≡ Met.Found e n → ⊥) →

@@ -1,11 +1,12 @@
--- The words of the list land: what a walk from head meets, and how it ends. Assumes nothing.
+-- The words of the list land: what a walk from head found-then, and how it ends. Assumes nothing.
 use Prim.Native.Nat.{ℕ, zero, suc, _+_, _-_, _%_}
 use mathlib.Core.Bool.{Bool, true, false, cond, _&&_}
 use mathlib.Core.List.{List, [], _∷_}
 use lib.Dec.{eqb, leb}
 use lib.ListN.{length, getD}
 use Rattle.units.specs.declared.Addr.{Addr}
-use Rattle.units.specs.Words.{wordNumber, mayBegin, mayEnd}
+use Rattle.units.specs.declared.Range as units
+use Rattle.units.specs.Words.{wordNumber, rangeOf, mayBegin, mayEnd}
 use Rattle.model.specs.Marks.{Range, rng}
 use Rattle.model.specs.Lists.{total}
 use Rattle.list_words.specs.declared.Met.{Met}
@@ -13,6 +14,10 @@ use Rattle.list_words.specs.declared.Met.{Met}
 -- Address n as a struct.
 abbrev pub addr : ℕ → Addr
 addr n = record { 0 = n }
+
+-- A range of the model as a struct of the code.
+abbrev pub struct : Range → units.Range
+struct r = rangeOf (r .base) (r .limit)
 
 -- How a walk ends: at a next base of 0, or at the base where it fails, by the base itself or by the descriptor there.
 pub data Ending : Type 0 where
@@ -29,8 +34,8 @@ abbrev pub ends : Ending → Walk
 ends e = record { met = []; end = e }
 
 -- A range [x, e) and the walk on.
-abbrev pub meets : ℕ → ℕ → Walk → Walk
-meets x e w = record { met = rng x e ∷ w .met; end = w .end }
+abbrev pub found-then : ℕ → ℕ → Walk → Walk
+found-then x e w = record { met = rng x e ∷ w .met; end = w .end }
 
 -- In an arena [b, l) with alignment a whose words are ws:
 module _ (b l a : ℕ) (ws : List ℕ) where
@@ -57,7 +62,7 @@ module _ (b l a : ℕ) (ws : List ℕ) where
 
   -- The walk on from what is met at x, with k for the walk from a next base, each base above the limit before it.
   abbrev pub after : ℕ → Met → (ℕ → ℕ → Walk) → Walk
-  after x (Met.Found e n) k = meets x (e .0) (k (e .0 + 1) (n .0))
+  after x (Met.Found e n) k = found-then x (e .0) (k (e .0 + 1) (n .0))
   after x Met.BadBase k = ends (bad-base x)
   after x Met.BadDescriptor k = ends (bad-descriptor x)
 

@@ -68,20 +68,30 @@ findCheck Which.Largest base limit a n = largestCheck base limit a n
 abbrev pub findSize : ℕ → ℕ → ℕ
 findSize a n = n
 
+-- Document 01's number of each case: 5 for what is no arena, 4 for a range or size that breaks the rules, 0 for what keeps them.
+abbrev pub arenaNumber : ArenaCheck → ℕ
+arenaNumber ArenaCheck.Good = 0
+arenaNumber ArenaCheck.Align = 5
+arenaNumber ArenaCheck.Base = 5
+arenaNumber ArenaCheck.Limit = 5
+
+abbrev pub rangeNumber : RangeCheck → ℕ
+rangeNumber RangeCheck.Good = 0
+rangeNumber RangeCheck.Order = 4
+rangeNumber RangeCheck.Base = 4
+rangeNumber RangeCheck.Limit = 4
+rangeNumber RangeCheck.Outside = 4
+
+abbrev pub sizeNumber : SizeCheck → ℕ
+sizeNumber SizeCheck.Good = 0
+sizeNumber SizeCheck.Zero = 4
+sizeNumber SizeCheck.Unaligned = 4
+
 abbrev pub goodArena : ArenaCheck → Bool
-goodArena ArenaCheck.Good = true
-goodArena ArenaCheck.Align = false
-goodArena ArenaCheck.Base = false
-goodArena ArenaCheck.Limit = false
+goodArena x = eqb (arenaNumber x) 0
 
 abbrev pub goodRange : RangeCheck → Bool
-goodRange RangeCheck.Good = true
-goodRange RangeCheck.Order = false
-goodRange RangeCheck.Base = false
-goodRange RangeCheck.Limit = false
-goodRange RangeCheck.Outside = false
+goodRange x = eqb (rangeNumber x) 0
 
 abbrev pub goodSize : SizeCheck → Bool
-goodSize SizeCheck.Good = true
-goodSize SizeCheck.Zero = false
-goodSize SizeCheck.Unaligned = false
+goodSize x = eqb (sizeNumber x) 0

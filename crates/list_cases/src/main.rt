@@ -1,0 +1,273 @@
+// Plays records of standard input on the list land, each with its own handle and words, and prints what each call returns.
+// It assumes the contracts of libc's read and write, and nothing else.
+//
+// A record is OP base limit align head ranges bytes NWORDS w0 .. A B C. OP: 0 open, 1 insert, 2 delete, 3 find first,
+// 4 find last, 5 find largest, 6 walk. A find's mode is B: 0 none, 1 low, 2 high, 3 entire. A number that cannot be read ends the program.
+use list_land::Changed;
+use list_land::Found;
+use list_land::ListLand;
+use units::Addr;
+use units::Align;
+use units::Mode;
+use units::Range;
+use units::Size;
+
+// A number with one digit more; or its end; or a digit by which it would pass 2^64 - 1.
+pub enum Grown {
+    More(u64),
+    End,
+    Over,
+}
+
+// A number read, and the position after it.
+pub struct Number {
+    pub good: bool,
+    pub value: u64,
+    pub at: usize,
+}
+
+// The position after some numbers, if all of them were read.
+pub struct Place {
+    pub good: bool,
+    pub at: usize,
+}
+
+fn wide(b: u8) -> u64 {
+    b as u64
+}
+
+fn is_space(b: u8) -> bool {
+    if b == b' ' {
+        return true;
+    }
+    b == b'\n'
+}
+
+// The number with the digit d behind it.
+fn grow(value: u64, d: u64) -> Grown {
+    if 9 < d {
+        return Grown::End;
+    }
+    if 1844674407370955161 < value {
+        return Grown::Over;
+    }
+    let tens = value * 10;
+    if 18446744073709551615 - tens < d {
+        return Grown::Over;
+    }
+    Grown::More(tens + d)
+}
+
+// The number with the digit in a byte behind it.
+fn grow_by(value: u64, b: u8) -> Grown {
+    if b < b'0' {
+        return Grown::End;
+    }
+    grow(value, wide(b - b'0'))
+}
+
+// The first position from `from` on that holds no space.
+fn skip(text: &[u8], from: usize) -> usize {
+    let mut at = from;
+    while at < text.len() {
+        if !is_space(text[at]) {
+            return at;
+        }
+        at = at + 1;
+    }
+    at
+}
+
+// The digits from `from` on, of which there is at least one.
+fn digits(text: &[u8], from: usize) -> Number {
+    let mut good = false;
+    let mut value: u64 = 0;
+    let mut at = from;
+    while at < text.len() {
+        match grow_by(value, text[at]) {
+            Grown::More(v) => {
+                value = v;
+            }
+            Grown::End => {
+                return Number { good, value, at };
+            }
+            Grown::Over => {
+                return Number {
+                    good: false,
+                    value: 0,
+                    at,
+                };
+            }
+        }
+        good = true;
+        at = at + 1;
+    }
+    Number { good, value, at }
+}
+
+// Fills `out` with the numbers that come next.
+fn fill(text: &[u8], from: usize, out: &mut [u64]) -> Place {
+    let mut at = from;
+    let mut i: usize = 0;
+    while i < out.len() {
+        let n = digits(text, skip(text, at));
+        at = n.at;
+        if !n.good {
+            return Place { good: false, at };
+        }
+        out[i] = n.value;
+        i = i + 1;
+    }
+    Place { good: true, at }
+}
+
+fn mode_of(n: u64) -> Mode {
+    match n {
+        0 => Mode::None,
+        1 => Mode::Low,
+        2 => Mode::High,
+        _ => Mode::Entire,
+    }
+}
+
+// The handle in the first numbers of a record.
+fn handle(front: &[u64; 8]) -> ListLand {
+    ListLand {
+        base: Addr::new(front[1]),
+        limit: Addr::new(front[2]),
+        align: Align::new(front[3]),
+        head: Addr::new(front[4]),
+        ranges: front[5],
+        bytes: Size::new(front[6]),
+    }
+}
+
+fn of_change(c: Changed) -> Found {
+    let land = c.land;
+    let range = c.range;
+    Found {
+        land,
+        answer: c.answer,
+        range,
+        old: Range::none(),
+    }
+}
+
+fn open(h: ListLand, words: &[u64]) -> Found {
+    let o = ListLand::open(h.base, h.limit, h.align, words);
+    let land = o.land;
+    Found {
+        land,
+        answer: o.answer,
+        range: Range::none(),
+        old: Range::none(),
+    }
+}
+
+// One call of the land.
+fn call(op: u64, land: ListLand, words: &mut [u64], a: u64, b: u64) -> Found {
+    match op {
+        0 => open(land, words),
+        1 => of_change(land.insert(words, Range::new(Addr::new(a), Addr::new(b)))),
+        2 => of_change(land.delete(words, Range::new(Addr::new(a), Addr::new(b)))),
+        3 => land.find_first(words, Size::new(a), mode_of(b)),
+        4 => land.find_last(words, Size::new(a), mode_of(b)),
+        5 => land.find_largest(words, Size::new(a), mode_of(b)),
+        _ => of_change(land.walk(words, Addr::new(a))),
+    }
+}
+
+// A space and a number.
+fn show(n: u64) {
+    io::write_all(1, b" ");
+    io::print_decimal(1, n);
+}
+
+fn show_land(land: ListLand) {
+    show(land.base.number());
+    show(land.limit.number());
+    show(land.align.number());
+    show(land.head.number());
+    show(land.ranges);
+    show(land.bytes.number());
+}
+
+fn show_range(range: Range) {
+    show(range.base.number());
+    show(range.limit.number());
+}
+
+fn show_words(words: &[u64]) {
+    let mut i: usize = 0;
+    while i < words.len() {
+        show(words[i]);
+        i = i + 1;
+    }
+}
+
+// A line for a record: the answer, the handle, the two ranges and the words.
+fn show_line(found: Found, words: &[u64]) {
+    io::print_decimal(1, found.answer);
+    show_land(found.land);
+    show_range(found.range);
+    show_range(found.old);
+    show_words(words);
+    io::write_all(1, b"\n");
+}
+
+// The call of a record, and its line.
+fn play_call(front: &[u64; 8], words: &mut [u64], args: &[u64; 3]) {
+    let found = call(front[0], handle(front), words, args[0], args[1]);
+    show_line(found, words);
+}
+
+// The rest of a record, from its words on.
+fn play_words(text: &[u8], from: usize, front: &[u64; 8], words: &mut [u64]) -> Place {
+    let p = fill(text, from, words);
+    let mut args = [0u64; 3];
+    let q = fill(text, p.at, &mut args);
+    if !q.good {
+        return q;
+    }
+    play_call(front, words, &args);
+    q
+}
+
+// One record.
+fn play(text: &[u8], from: usize) -> Place {
+    let mut front = [0u64; 8];
+    let mut words = [0u64; 64];
+    let p = fill(text, from, &mut front);
+    if !p.good {
+        return p;
+    }
+    let n = front[7];
+    if 64 < n {
+        return Place {
+            good: false,
+            at: p.at,
+        };
+    }
+    let k = n as usize;
+    play_words(text, p.at, &front, &mut words[..k])
+}
+
+// The records, of which there are fewer than bytes.
+fn play_all(text: &[u8]) {
+    let mut at: usize = 0;
+    let mut turns = text.len();
+    while turns > 0 {
+        let p = play(text, at);
+        if !p.good {
+            return;
+        }
+        at = p.at;
+        turns = turns - 1;
+    }
+}
+
+fn main() {
+    let mut text = io::large_buffer();
+    let n = io::read_full(0, &mut text);
+    play_all(&text[..n]);
+}
