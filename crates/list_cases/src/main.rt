@@ -43,27 +43,23 @@ fn is_space(b: u8) -> bool {
     b == b'\n'
 }
 
-// The number with the digit d behind it.
-fn grow(value: u64, d: u64) -> Grown {
-    if 9 < d {
+// The number with the digit in a byte behind it.
+fn grow(value: u64, b: u8) -> Grown {
+    if b < b'0' {
+        return Grown::End;
+    }
+    if b'9' < b {
         return Grown::End;
     }
     if 1844674407370955161 < value {
         return Grown::Over;
     }
     let tens = value * 10;
+    let d = wide(b - b'0');
     if 18446744073709551615 - tens < d {
         return Grown::Over;
     }
     Grown::More(tens + d)
-}
-
-// The number with the digit in a byte behind it.
-fn grow_by(value: u64, b: u8) -> Grown {
-    if b < b'0' {
-        return Grown::End;
-    }
-    grow(value, wide(b - b'0'))
 }
 
 // The first position from `from` on that holds no space.
@@ -84,20 +80,14 @@ fn digits(text: &[u8], from: usize) -> Number {
     let mut value: u64 = 0;
     let mut at = from;
     while at < text.len() {
-        match grow_by(value, text[at]) {
-            Grown::More(v) => {
-                value = v;
-            }
-            Grown::End => {
-                return Number { good, value, at };
-            }
-            Grown::Over => {
-                return Number {
-                    good: false,
-                    value: 0,
-                    at,
-                };
-            }
+        match grow(value, text[at]) {
+            Grown::More(v) => value = v,
+            Grown::End => return Number { good, value, at },
+            Grown::Over => return Number {
+                good: false,
+                value: 0,
+                at,
+            },
         }
         good = true;
         at = at + 1;
@@ -177,8 +167,12 @@ fn call(op: u64, land: ListLand, words: &mut [u64], a: u64, b: u64) -> Found {
     }
 }
 
-// A space and a number.
+// A space and a number. Most are 0, and a short way for it keeps `rt try` within its steps.
 fn show(n: u64) {
+    if n == 0 {
+        io::write_all(1, b" 0");
+        return;
+    }
     io::write_all(1, b" ");
     io::print_decimal(1, n);
 }
@@ -224,6 +218,9 @@ fn play_call(front: &[u64; 8], words: &mut [u64], args: &[u64; 3]) {
 // The rest of a record, from its words on.
 fn play_words(text: &[u8], from: usize, front: &[u64; 8], words: &mut [u64]) -> Place {
     let p = fill(text, from, words);
+    if !p.good {
+        return p;
+    }
     let mut args = [0u64; 3];
     let q = fill(text, p.at, &mut args);
     if !q.good {

@@ -10,7 +10,7 @@ use lib.ListN.{length}
 use types.Run.{OneOf}
 use denote.Enum.Declared.{tagOf}
 use borrow.Author.Tests.{eq-eqb, ne-eqb, eqb-true, eqb-false, not-true, not-false}
-use Rattle.units.specs.Rules.{arenaCheck, goodArena}
+use Rattle.units.specs.Rules.{goodAlign, arenaCheck, goodArena}
 use Rattle.units.specs.Words.{wordNumber, rangeOf}
 use Rattle.units.specs.declared.Addr.{Addr}
 use Rattle.units.specs.declared.Align.{Align}
@@ -125,10 +125,16 @@ pub set-up-false : (h : ListLand) (ws : List ℕ) (r : SetUp) → r ≡ setUpOf 
 set-up-false h ws r e f = by (setUp h ws) (λ t. let q : r ≡ SetUp.Good = rw t at e in let z : _≡_ {A = ℕ} 0 1 = cc in absurd (omega arith)) (λ t. t)
 
 -- THE LOOK
+pub walk-arena-made : (h : ListLand) (a : Align) → a .0 ≡ h .align .0 → record { base = h .base; limit = h .limit; align = a } ≡ arenaIn h
+walk-arena-made h a e = λ i. record { base = h .base; limit = h .limit; align = record { 0 = e i } }
+
 module _ (h : ListLand) (ws : List ℕ) (aim : Aim) (r : SetUp) (e : r ≡ setUpOf (setUp h ws)) where
   pub look-bad : r ≡ SetUp.Bad → Look.BadSetUp ≡ lookOf h ws aim
   unfolding lookOf
   look-bad f = rw (set-up-false h ws r e f)
+
+  pub look-align : r ≡ SetUp.Good → goodAlign (h .align .0) ≡ true
+  look-align f = placed h ws (set-up-true h ws r e f) .arena .align
 
   module _ (f : r ≡ SetUp.Good) (a : Arena) (ea : a ≡ arenaIn h) where
     pub look-ready : Ready a (length ws)
@@ -154,7 +160,7 @@ module _ (h : ListLand) (ws : List ℕ) (aim : Aim) (r : SetUp) (e : r ≡ setUp
           let w : s ≡ kept-of aim (walkOf h ws .met) = cc in rw (set-up-true h ws r e f, t) (ap (λ (x : Spot). Look.Sound x) w))
           (λ t. let q : v ≡ Verdict.Damaged = rw t at seen in let z : _≡_ {A = ℕ} 0 1 = cc in absurd (omega arith))
 
-pub ruleset look-ways = (look-bad, look-ready, look-damaged, look-sound)
+pub ruleset look-ways = (look-bad, look-align, look-ready, look-damaged, look-sound)
 
 -- THE OPENING
 module _ (b l a : ℕ) (ws : List ℕ) (h : ListLand) (eh : h ≡ newLand b l a) (r : SetUp) (e : r ≡ setUpOf (setUp h ws)) where

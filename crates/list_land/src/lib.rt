@@ -16,7 +16,9 @@ use units::Arena;
 use units::ArenaCheck;
 use units::Range;
 use units::Size;
+ghost use mathlib.Core.Bool.{true};
 ghost use mathlib.Core.Path.{_≡_};
+ghost use Rattle.units.specs.Rules.{goodAlign};
 ghost use Rattle.list_land.specs.Layout.{setUp};
 ghost use Rattle.list_land.specs.Calls.{refusedBy, changed, walked, openedOf};
 ghost use Rattle.list_land.specs.Parts.{arenaIn, chainOf, setUpOf, lookOf, closedWith};
@@ -89,6 +91,17 @@ impl ListLand {
         Arena { base, limit, align }
     }
 
+    // The arena with its alignment as one of ten constants, for the loop of the walk.
+    fn walk_arena(self) -> Arena
+        requires { ⌜ goodAlign (self .align .0) ≡ true ⌝ }
+        ensures { λ r. ⌜ r ≡ arenaIn self ⌝ }
+    {
+        let base = self.base;
+        let limit = self.limit;
+        let align = self.align.divisor();
+        Arena { base, limit, align }
+    }
+
     fn chain(self) -> Chain
         ensures { λ r. ⌜ r ≡ chainOf self ⌝ }
     {
@@ -121,7 +134,7 @@ impl ListLand {
         let SetUp::Good = self.set_up(words) else {
             return Look::BadSetUp;
         };
-        match list_words::survey(self.arena(), words, self.chain(), aim) {
+        match list_words::survey(self.walk_arena(), words, self.chain(), aim) {
             Verdict::Damaged => Look::Damaged,
             Verdict::Sound(spot) => Look::Sound(spot),
         }

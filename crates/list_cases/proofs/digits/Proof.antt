@@ -1,14 +1,10 @@
 -- `list_cases::digits` is safe and ends. The measure is what is left of the text.
 -- Assumes nothing.
 use Prim.Native.Nat.{_-_}
-use native.Mathlib.Omega.{arith}
 use lib.ListN.{length}
 use borrow.Author.Needs.{needs}
 use Rattle.list_cases.proofs.digits.Statement.{statement}
 use Rattle.list_cases.proofs.digits.Tie as tie
-use Rattle.list_cases.proofs.digits.Reads as reads
-use Rattle.list_cases.proofs.digits.Lts as lts
-use Rattle.list_cases.proofs.grow_by.Reads as grow-by-reads
 
 abbrev Inv-loop : tie.InvT-loop
 Inv-loop text from good₀ value₀ at₀ good value at = Unit {0}
@@ -16,51 +12,39 @@ Inv-loop text from good₀ value₀ at₀ good value at = Unit {0}
 abbrev μ-loop : tie.MeasureT-loop
 μ-loop text from good₀ value₀ at₀ good value at = length text - at
 
--- src/main.rt:86:5
 loop-holds : tie.Need-loop-holds Inv-loop μ-loop
 loop-holds c = search needs
 
--- src/main.rt:87:30
-shared-slice-read-grow-by : tie.Need-shared-slice-read-grow-by Inv-loop μ-loop
-shared-slice-read-grow-by c = search needs
+shared-slice-read-grow : tie.Need-shared-slice-read-grow Inv-loop μ-loop
+shared-slice-read-grow c = search needs
 
--- src/main.rt:87:15
-grow-by-requires : tie.Need-grow-by-requires Inv-loop μ-loop
-grow-by-requires c κs = search needs
+grow-requires : tie.Need-grow-requires Inv-loop μ-loop
+grow-requires c κs = search needs
 
--- src/main.rt:88:25
 enum-known-v : tie.Need-enum-known-v Inv-loop μ-loop
 enum-known-v c = search needs
 
--- src/main.rt:92:17
 enum-told : tie.Need-enum-told Inv-loop μ-loop
 enum-told c = search needs
 
--- src/main.rt:92:17
 returns : tie.Need-returns Inv-loop μ-loop
 returns c = search needs
 
--- src/main.rt:95:17
 enum-told-2 : tie.Need-enum-told-2 Inv-loop μ-loop
 enum-told-2 c = search needs
 
--- src/main.rt:95:17
 returns-2 : tie.Need-returns-2 Inv-loop μ-loop
 returns-2 c = search needs
 
--- src/main.rt:103:14
 add-at : tie.Need-add-at Inv-loop μ-loop
 add-at c = search needs
 
--- src/main.rt:86:5
 loop-less : tie.Need-loop-less Inv-loop μ-loop
 loop-less c = search needs
 
--- src/main.rt:86:5
 loop-again : tie.Need-loop-again Inv-loop μ-loop
 loop-again c = search needs
 
--- src/main.rt:82:1
 returns-3 : tie.Need-returns-3 Inv-loop μ-loop
 returns-3 c = search needs
 
@@ -71,8 +55,8 @@ digits-spec =
     Inv-loop
     μ-loop
     loop-holds
-    shared-slice-read-grow-by
-    grow-by-requires
+    shared-slice-read-grow
+    grow-requires
     enum-known-v
     enum-told
     returns

@@ -1,47 +1,36 @@
+-- `list_cases::play` is safe: the words that it lends are at most 64.
+-- Assumes nothing.
 use mathlib.Core.Path.{sym}
 use native.Mathlib.Omega.{arith}
 use lib.Seq.{length-take-le}
 use borrow.Author.Needs.{needs}
 use Rattle.list_cases.proofs.play.Statement.{statement}
 use Rattle.list_cases.proofs.play.Tie as tie
-use Rattle.list_cases.proofs.play.Reads as reads
-use Rattle.list_cases.proofs.play.Lts as lts
-use Rattle.list_cases.proofs.fill.Reads as fill-reads
-use Rattle.list_cases.proofs.play_words.Reads as play-words-reads
 
--- src/main.rt:235:30
 slice-aggregate-fill : tie.Need-slice-aggregate-fill
 slice-aggregate-fill c = search needs
 
--- src/main.rt:235:9
 fill-requires : tie.Need-fill-requires
 fill-requires c κs = search needs
 
--- src/main.rt:237:9
 returns : tie.Need-returns
 returns c = search needs
 
--- src/main.rt:239:13
 array-read-n : tie.Need-array-read-n
 array-read-n c = search needs
 
--- src/main.rt:241:9
 returns-2 : tie.Need-returns-2
 returns-2 c = search needs
 
--- src/main.rt:247:36
 array-borrow-prefix-words : tie.Need-array-borrow-prefix-words
 array-borrow-prefix-words c = search needs
 
--- src/main.rt:247:36
 slice-aggregate-play-words : tie.Need-slice-aggregate-play-words
 slice-aggregate-play-words c = sym (length-take-le _ _ (omega arith))
 
--- src/main.rt:247:5
 play-words-requires : tie.Need-play-words-requires
 play-words-requires c κs = search needs
 
--- src/main.rt:232:1
 returns-3 : tie.Need-returns-3
 returns-3 c = search needs
 

@@ -1,14 +1,8 @@
 -- `list_cases::play_all` is safe and ends. The measure is the number of turns that are left.
 -- Assumes nothing.
-use Prim.Native.Nat.{_≤_, _-_}
-use native.Mathlib.Omega.{arith}
-use lib.ListN.{length}
 use borrow.Author.Needs.{needs}
 use Rattle.list_cases.proofs.play_all.Statement.{statement}
 use Rattle.list_cases.proofs.play_all.Tie as tie
-use Rattle.list_cases.proofs.play_all.Reads as reads
-use Rattle.list_cases.proofs.play_all.Lts as lts
-use Rattle.list_cases.proofs.play.Reads as play-reads
 
 abbrev Inv-loop : tie.InvT-loop
 Inv-loop text at₀ turns₀ at turns = Unit {0}
@@ -16,31 +10,24 @@ Inv-loop text at₀ turns₀ at turns = Unit {0}
 abbrev μ-loop : tie.MeasureT-loop
 μ-loop text at₀ turns₀ at turns = turns
 
--- src/main.rt:254:5
 loop-holds : tie.Need-loop-holds Inv-loop μ-loop
 loop-holds c = search needs
 
--- src/main.rt:255:13
 play-requires : tie.Need-play-requires Inv-loop μ-loop
 play-requires c κs = search needs
 
--- src/main.rt:257:13
 returns : tie.Need-returns Inv-loop μ-loop
 returns c = search needs
 
--- src/main.rt:260:17
 sub-turns : tie.Need-sub-turns Inv-loop μ-loop
 sub-turns c = search needs
 
--- src/main.rt:254:5
 loop-less : tie.Need-loop-less Inv-loop μ-loop
 loop-less c = search needs
 
--- src/main.rt:254:5
 loop-again : tie.Need-loop-again Inv-loop μ-loop
 loop-again c = search needs
 
--- src/main.rt:251:1
 returns-2 : tie.Need-returns-2 Inv-loop μ-loop
 returns-2 c = search needs
 

@@ -1,14 +1,10 @@
 -- `list_cases::show_words` is safe and ends. The measure is what is left of the words.
 -- Assumes nothing.
 use Prim.Native.Nat.{_≤_, _-_}
-use native.Mathlib.Omega.{arith}
 use lib.ListN.{length}
 use borrow.Author.Needs.{needs}
 use Rattle.list_cases.proofs.show_words.Statement.{statement}
 use Rattle.list_cases.proofs.show_words.Tie as tie
-use Rattle.list_cases.proofs.show_words.Reads as reads
-use Rattle.list_cases.proofs.show_words.Lts as lts
-use Rattle.list_cases.proofs.show.Reads as show-reads
 
 abbrev Inv-loop : tie.InvT-loop
 Inv-loop words i₀ i = i ≤ length words
@@ -16,35 +12,27 @@ Inv-loop words i₀ i = i ≤ length words
 abbrev μ-loop : tie.MeasureT-loop
 μ-loop words i₀ i = length words - i
 
--- src/main.rt:202:5
 loop-holds : tie.Need-loop-holds Inv-loop μ-loop
 loop-holds c = search needs
 
--- src/main.rt:203:14
 mul-show : tie.Need-mul-show Inv-loop μ-loop
 mul-show c = search needs
 
--- src/main.rt:203:14
 shared-slice-read-show : tie.Need-shared-slice-read-show Inv-loop μ-loop
 shared-slice-read-show c = search needs
 
--- src/main.rt:203:9
 show-requires : tie.Need-show-requires Inv-loop μ-loop
 show-requires c κs = search needs
 
--- src/main.rt:204:13
 add-i : tie.Need-add-i Inv-loop μ-loop
 add-i c = search needs
 
--- src/main.rt:202:5
 loop-less : tie.Need-loop-less Inv-loop μ-loop
 loop-less c = search needs
 
--- src/main.rt:202:5
 loop-again : tie.Need-loop-again Inv-loop μ-loop
 loop-again c = search needs
 
--- src/main.rt:200:1
 returns : tie.Need-returns Inv-loop μ-loop
 returns c = search needs
 

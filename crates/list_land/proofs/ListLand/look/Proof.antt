@@ -16,8 +16,8 @@ enum-told-2 c = search needs
 returns : tie.Need-returns
 returns c = search look-ways
 
-arena-requires : tie.Need-arena-requires
-arena-requires c κs = search needs
+walk-arena-requires : tie.Need-walk-arena-requires
+walk-arena-requires c κs = search look-ways
 
 chain-requires : tie.Need-chain-requires
 chain-requires c κs = search needs
@@ -45,7 +45,7 @@ look-spec =
     enum-told
     enum-told-2
     returns
-    arena-requires
+    walk-arena-requires
     chain-requires
     survey-requires
     enum-told-3
