@@ -1,43 +1,28 @@
 -- The ways out of the public calls: each answer with what it hands back. Assumes nothing.
-use Prim.Native.Nat.{ℕ, suc, _+_, _-_, _≤_, _<_}
-use mathlib.Core.Bool.{Bool, true, false, not, cond}
-use mathlib.Core.List.{List, [], _∷_}
-use mathlib.Core.Logic.{⊎-elim}
-use mathlib.Core.Option.{Option, none, some}
-use mathlib.Core.Path.{_≡_, refl, sym, ap, ap₂, subst, _∙_}
+use Prim.Native.Nat.{ℕ}
+use mathlib.Core.Bool.{true, false}
+use mathlib.Core.List.{List}
+use mathlib.Core.Path.{_≡_, refl, _∙_}
 use native.Mathlib.Omega.{arith}
-use lib.Dec.{eqb, ltb}
-use lib.ListN.{length}
-use types.Run.{OneOf}
-use denote.Enum.Declared.{tagOf}
-use borrow.Author.Tests.{ne-eqb}
-use Rattle.units.specs.Words.{rangeOf}
-use Rattle.units.specs.declared.Addr.{Addr}
 use Rattle.units.specs.declared.Mode.{Mode}
 use Rattle.units.specs.declared.Range.{Range}
 use Rattle.units.specs.declared.Which.{Which}
-use Rattle.units.proofs.Tests.{by, clash}
+use Rattle.units.proofs.Tests.{by}
 use Rattle.model.specs.Marks as marks
-use Rattle.model.specs.Calls.{Call, insert, delete, find, walk, refused, accepted}
+use Rattle.model.specs.Calls.{Call, insert, delete, find, walk, refused}
 use Rattle.model.specs.Lands.{land-call}
 use Rattle.model.specs.Layouts.{Reading, fault, holding}
-use Rattle.model.specs.Steps.{next-from}
-use Rattle.list_words.specs.Surveys.{kept-of, none-range}
+use Rattle.list_words.specs.Surveys.{kept-of}
 use Rattle.list_words.specs.declared.Aim.{Aim}
 use Rattle.list_words.specs.declared.Spot.{Spot}
-use Rattle.list_words.proofs.Aiming.{kept-from}
-use Rattle.list_words.proofs.Keeping.{At, Behind, Placed}
-use Rattle.list_words.proofs.Laid.{lay-laid}
 use Rattle.list_land.specs.Calls.{LandDone, inserted, deleted, found, walked, changed, foundOf, refusedBy, foundNone}
-use Rattle.list_land.specs.Layout.{base, limit, setUp, walkOf, sound, readOf, closed, layout}
+use Rattle.list_land.specs.Layout.{base, limit, setUp, walkOf, sound, readOf, layout}
 use Rattle.list_land.specs.Parts.{lookNumber, lookOf, Sought}
 use Rattle.list_land.specs.declared.Changed.{Changed}
 use Rattle.list_land.specs.declared.Found.{Found}
 use Rattle.list_land.specs.declared.ListLand.{ListLand}
 use Rattle.list_land.specs.declared.Look.{Look}
-use Rattle.list_land.proofs.LayoutLaws.{handle-back}
-use Rattle.list_land.proofs.Outcomes.{call-5, call-6, call-refused, call-accepted}
-use Rattle.list_land.proofs.Sound.{Fine, fine}
+use Rattle.list_land.proofs.Outcomes.{call-5, call-6}
 
 -- WHAT A LOOK SAYS
 module _ (h : ListLand) (ws : List ℕ) (aim : Aim) (v : Look) (e : v ≡ lookOf h ws aim) where

@@ -1,22 +1,21 @@
 -- A part taken out of a range of a sound list: the stores and the next handle are those of the list without it. Assumes nothing.
-use Prim.Native.Nat.{ℕ, suc, _+_, _-_, _*_, _/_, _%_, _<_, _≤_}
+use Prim.Native.Nat.{ℕ, suc, _+_, _-_, _%_, _<_, _≤_}
 use mathlib.Core.Bool.{Bool, true, false, cond}
 use mathlib.Core.List.{List, [], _∷_, _++_}
-use mathlib.Core.Path.{_≡_, refl, sym, ap, ap₂, subst, _∙_}
+use mathlib.Core.Path.{_≡_, refl, sym, ap, _∙_}
 use native.Mathlib.Omega.{arith}
-use lib.Dec.{eqb, ltb}
+use lib.Dec.{ltb}
 use lib.ListN.{length, length-append}
-use Rattle.units.specs.declared.Addr.{Addr}
 use Rattle.units.specs.declared.Range as units
-use Rattle.model.specs.Marks.{Range, size}
-use Rattle.model.specs.Lists.{Apart, Aligned, total, holds, piece, delete-from}
+use Rattle.model.specs.Marks.{Range}
+use Rattle.model.specs.Lists.{Apart, total, holds, piece, delete-from}
 use Rattle.model.proofs.Best.{in-middle}
 use Rattle.model.proofs.Deleting.{delete-apart, delete-aligned}
 use Rattle.model.proofs.Parts.{mem-stands}
-use Rattle.model.proofs.Places.{apart-rest, total-append, remains, delete-at, length-piece, total-piece}
-use Rattle.list_words.specs.Words.{addr, struct}
+use Rattle.model.proofs.Places.{total-append, remains, delete-at, length-piece, total-piece}
+use Rattle.list_words.specs.Words.{addr}
 use Rattle.list_words.specs.Laying.{head-of, lay}
-use Rattle.list_words.specs.Edits.{EditRoom, storeHead, storeWords}
+use Rattle.list_words.specs.Edits.{storeHead}
 use Rattle.list_words.specs.declared.Spot.{Spot}
 use Rattle.list_words.proofs.Laid.{Laid, laid-rest}
 use Rattle.list_words.proofs.Keeping.{At}

@@ -1,27 +1,26 @@
 -- The ways out of a delete in a sound list: 4, 1, and the range taken out. Assumes nothing.
-use Prim.Native.Nat.{ℕ, suc, _+_, _-_, _≤_, _<_}
+use Prim.Native.Nat.{ℕ, suc, _≤_, _<_}
 use mathlib.Core.Bool.{Bool, true, false}
-use mathlib.Core.List.{List, [], _∷_, _++_, append-nil}
+use mathlib.Core.List.{List, [], _∷_, append-nil}
 use mathlib.Core.Option.{Option, none, some}
 use mathlib.Core.Path.{_≡_, refl, sym, ap, _∙_}
 use native.Mathlib.Omega.{arith}
 use lib.Dec.{eqb, ltb}
 use lib.ListN.{length}
-use borrow.Author.Tests.{eqb-true, ne-eqb, ltb-true, ltb-false, lt-leb, le-leb}
+use borrow.Author.Tests.{ne-eqb, ltb-true, ltb-false, lt-leb, le-leb}
 use Rattle.units.specs.declared.Range as units
 use Rattle.units.proofs.Alignments.{multiple-8}
 use Rattle.units.proofs.Tests.{clash}
 use Rattle.model.specs.Calls.{delete, good-range}
-use Rattle.model.specs.Lists.{Apart, holds, holder, delete-from}
+use Rattle.model.specs.Lists.{holds, holder, delete-from}
 use Rattle.model.specs.Marks.{Range, rng}
 use Rattle.model.specs.Answers.{RangeRules}
 use Rattle.model.proofs.Places.{Before, apart-rest, holds-below, holder-below, holder-here, holds-above}
 use Rattle.model.proofs.Requests.{range-rules}
 use Rattle.list_words.specs.Words.{struct}
-use Rattle.list_words.specs.Laying.{lay}
 use Rattle.list_words.specs.declared.Spot.{Spot}
 use Rattle.list_words.proofs.Aiming.{reach, kept-reach, reach-none, reach-some}
-use Rattle.list_words.proofs.Keeping.{At, Behind, Placed}
+use Rattle.list_words.proofs.Keeping.{At, Placed}
 use Rattle.list_land.specs.Calls.{deleted, changed, refusedBy}
 use Rattle.list_land.specs.Cuts.{Cutting, cutLand, cutWords}
 use Rattle.list_land.specs.Layout.{base, limit, align, arenaOf, walkOf, closed}

@@ -1,26 +1,22 @@
 -- Demand 3 of the list land: an instance of the theorem of `model`. Assumes nothing.
-use Prim.Native.Nat.{ℕ, suc, _+_, _-_, _*_, _/_, _%_, _<_, _≤_}
-use mathlib.Core.Bool.{Bool, true, false, not, _&&_, _||_, or-true}
+use Prim.Native.Nat.{ℕ, suc, _+_, _*_, _%_, _≤_}
+use mathlib.Core.Bool.{true, not, _&&_, or-true}
 use mathlib.Core.List.{List, [], _∷_}
-use mathlib.Core.Path.{_≡_, refl, sym, ap, subst, _∙_}
+use mathlib.Core.Path.{_≡_}
 use native.Mathlib.Omega.{arith}
 use lib.Dec.{eqb}
-use lib.ListN.{length, getD}
 use borrow.Author.Tests.{eqb-true, eqb-false, not-true}
 use Rattle.units.specs.Words.{wordNumber}
-use Rattle.units.proofs.Tests.{by, tests, and-left, and-right, or-second}
-use Rattle.model.specs.Marks.{Range, size, within}
+use Rattle.units.proofs.Tests.{by, and-left, and-right, or-second}
+use Rattle.model.specs.Marks.{Range, size}
 use Rattle.model.specs.Lists.{Apart, Aligned, marksOf}
-use Rattle.model.specs.Layouts.{holding}
 use Rattle.model.proofs.Bytes.{in-yes}
 use Rattle.model.proofs.DemandMet.{demand-3}
 use Rattle.list_words.specs.Laying.{grain, described}
-use Rattle.list_land.specs.Layout.{base, setUp, readOf, closed, layout}
+use Rattle.list_land.specs.Layout.{base, setUp, layout}
 use Rattle.list_land.specs.Calls.{newLand, openedOf}
 use Rattle.list_land.specs.Demand.{ListDemand3, HostMayWrite}
-use Rattle.list_land.specs.declared.ListLand.{ListLand}
-use Rattle.list_land.specs.declared.Opened.{Opened}
-use Rattle.list_land.proofs.Sound.{placed, Fine, fine}
+use Rattle.list_land.proofs.Sound.{placed, fine}
 use Rattle.list_land.proofs.LayoutLaws.{reads, read-laid, list-laws}
 
 opened-good : (b l a : ℕ) (ws : List ℕ) → openedOf b l a ws .answer ≡ 0 → (setUp (newLand b l a) ws ≡ true) × (openedOf b l a ws .land ≡ newLand b l a)

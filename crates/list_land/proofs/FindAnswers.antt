@@ -1,12 +1,12 @@
 -- The ways out of a find in a sound list: 4, 2, the range as it stands, and a part of it taken out. Assumes nothing.
-use Prim.Native.Nat.{ℕ, suc, _+_, _-_, _≤_, _<_}
+use Prim.Native.Nat.{ℕ, _≤_, _<_}
 use mathlib.Core.Bool.{Bool, true, false}
-use mathlib.Core.List.{List, [], _∷_, _++_}
+use mathlib.Core.List.{List, [], _∷_}
 use mathlib.Core.Logic.{⊎-elim}
 use mathlib.Core.Option.{Option, none, some}
 use mathlib.Core.Path.{_≡_, refl, sym, ap, ap₂, _∙_}
 use native.Mathlib.Omega.{arith}
-use lib.Dec.{eqb, ltb}
+use lib.Dec.{eqb}
 use lib.ListN.{length}
 use types.Run.{OneOf}
 use denote.Enum.Declared.{tagOf}
@@ -20,21 +20,19 @@ use Rattle.units.specs.declared.rules.Arena.{Arena}
 use Rattle.units.proofs.Alignments.{multiple-8}
 use Rattle.units.proofs.Mode as mode-type
 use Rattle.units.proofs.Tests.{clash}
-use Rattle.model.specs.Calls.{find, accepted, good-size, find-size}
-use Rattle.model.specs.Lists.{Apart, delete-from}
-use Rattle.model.specs.Marks.{Range, rng, size}
+use Rattle.model.specs.Calls.{find, accepted, good-size}
+use Rattle.model.specs.Lists.{delete-from}
+use Rattle.model.specs.Marks.{Range, size}
 use Rattle.model.specs.Steps.{list-ops, choose, part, taken, step}
-use Rattle.model.proofs.Best.{in-middle}
 use Rattle.model.proofs.Choosing.{choose-mem}
 use Rattle.model.proofs.Parts.{Takes, mem-stands, part-takes}
 use Rattle.model.proofs.Places.{apart-rest}
 use Rattle.model.proofs.Requests.{find-size-rules}
 use Rattle.list_words.specs.Words.{struct}
-use Rattle.list_words.specs.Laying.{lay}
 use Rattle.list_words.specs.declared.Aim.{Aim}
 use Rattle.list_words.specs.declared.Spot.{Spot}
 use Rattle.list_words.proofs.Aiming.{kept-find}
-use Rattle.list_words.proofs.Keeping.{At, Behind, Placed}
+use Rattle.list_words.proofs.Keeping.{At, Placed}
 use Rattle.list_words.proofs.Laid.{lay-laid}
 use Rattle.list_land.specs.Calls.{found, foundOf, foundNone}
 use Rattle.list_land.specs.Cuts.{Cutting, cutLand, cutWords}

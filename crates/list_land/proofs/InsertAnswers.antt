@@ -1,11 +1,10 @@
 -- The ways out of an insert in a sound list: 4, 1, and the range put in. Assumes nothing.
-use Prim.Native.Nat.{ℕ, _+_, _-_, _≤_, _<_}
-use mathlib.Core.Bool.{Bool, true, false}
+use Prim.Native.Nat.{ℕ}
+use mathlib.Core.Bool.{true, false}
 use mathlib.Core.List.{List}
 use mathlib.Core.Path.{_≡_, refl, sym, ap, _∙_}
 use native.Mathlib.Omega.{arith}
 use lib.ListN.{length}
-use Rattle.units.specs.Words.{rangeOf}
 use Rattle.units.specs.declared.Range.{Range}
 use Rattle.model.specs.Calls.{insert, good-range}
 use Rattle.model.specs.Lists.{holder, insert-in}
@@ -13,7 +12,7 @@ use Rattle.model.specs.Marks.{rng}
 use Rattle.model.proofs.Requests.{range-rules}
 use Rattle.list_words.specs.declared.Spot.{Spot}
 use Rattle.list_land.specs.Calls.{inserted, changed, refusedBy}
-use Rattle.list_land.specs.Joins.{Following, Placing, placeOf, Putting, putChanged, putWords}
+use Rattle.list_land.specs.Joins.{Placing, placeNumber, placeOf, Putting, putChanged, putWords}
 use Rattle.list_land.specs.Layout.{base, limit, arenaOf, walkOf}
 use Rattle.list_land.specs.Parts.{Sought, reachBase}
 use Rattle.list_land.specs.declared.Changed.{Changed}
@@ -75,3 +74,12 @@ module _ (h : ListLand) (ws : List ℕ) (y : Range) (s : Spot) (k : Sought h ws 
           let new = insert-in (y .base .0) (y .limit .0) (walkOf h ws .met) in
           let d = is-insert h ws y ∙ call-accepted (insert (y .base .0) (y .limit .0)) h ws (k .good) (k .whole) (holder (y .base .0) (y .limit .0) new) (rng 0 0) new (rw (g, o)) in
           (rw d (q .0 ∙ done .gives), rw d (q .1 ∙ done .words))
+
+    -- the number of a place is the answer
+    number-of : (p : Place) → p ≡ placeOf h ws y s → placeNumber p ≡ changed (inserted h ws y) .answer
+    number-of Place.Overlap ep = ap (λ (c : Changed). c .answer) (insert-1 Place.Overlap ep refl (refusedBy h 1) refl .0)
+    number-of (Place.Free j) ep =
+        ap (λ (c : Changed). c .answer) (insert-0 (Place.Free j) ep j refl (putChanged h y j) (putWords h ws j) (refl, refl) .0)
+
+    pub place-number : placeNumber (placeOf h ws y s) ≡ changed (inserted h ws y) .answer
+    place-number = number-of (placeOf h ws y s) refl

@@ -1,17 +1,15 @@
 -- An insertion in a sound list: the stores and the next handle are those of the list with the range in it. Assumes nothing.
-use Prim.Native.Nat.{ℕ, suc, _+_, _-_, _*_, _/_, _%_, _<_, _≤_}
-use mathlib.Core.Bool.{Bool, true, false, cond}
-use mathlib.Core.List.{List, [], _∷_, _++_}
-use mathlib.Core.Path.{_≡_, refl, sym, ap, ap₂, subst, _∙_}
+use Prim.Native.Nat.{ℕ, _+_, _-_, _<_, _≤_}
+use mathlib.Core.Bool.{true, false}
+use mathlib.Core.List.{List, _∷_, _++_}
+use mathlib.Core.Path.{_≡_, sym, ap, _∙_}
 use native.Mathlib.Omega.{arith}
-use lib.Dec.{eqb, ltb}
 use lib.ListN.{length, length-append}
 use borrow.Author.Tests.{lt-ltb, le-ltb}
-use Rattle.units.specs.Words.{rangeOf}
 use Rattle.units.specs.declared.Range as units
 use Rattle.units.proofs.Alignments.{multiple-8}
-use Rattle.model.specs.Marks.{Range, rng, size}
-use Rattle.model.specs.Lists.{Apart, Aligned, total, overlaps, holder, insert-in}
+use Rattle.model.specs.Marks.{Range}
+use Rattle.model.specs.Lists.{total, overlaps, holder, insert-in}
 use Rattle.model.specs.Answers.{RangeRules}
 use Rattle.model.proofs.Inserting.{insert-apart, insert-aligned}
 use Rattle.model.proofs.Places.{total-append, insert-front, overlaps-front, holder-front, holder-here}
@@ -20,14 +18,13 @@ use Rattle.list_words.specs.Laying.{head-of, lay}
 use Rattle.list_words.specs.Edits.{plain, storeHead}
 use Rattle.list_words.specs.declared.Spot.{Spot}
 use Rattle.list_words.proofs.Laid.{Laid}
-use Rattle.list_words.proofs.Keeping.{Last}
 use Rattle.list_words.proofs.Editing.{edited, Stored, stored}
 use Rattle.list_land.specs.Layout.{base, limit, align, arenaOf, walkOf, closed}
-use Rattle.list_land.specs.Joins.{joinOf, placeOf, putEdit, Putting, putChanged, putWords}
+use Rattle.list_land.specs.Joins.{placeOf, putEdit, Putting, putChanged, putWords}
 use Rattle.list_land.specs.declared.ListLand.{ListLand}
 use Rattle.list_land.specs.declared.insert.Join.{Join}
 use Rattle.list_land.specs.declared.insert.Place.{Place}
-use Rattle.list_land.proofs.Cutting.{Small, small}
+use Rattle.list_land.proofs.Cutting.{small}
 use Rattle.list_land.proofs.Joining.{Joined, joins-free, joins-overlap}
 use Rattle.list_land.proofs.Sound.{Fine}
 use Rattle.list_land.proofs.Standing.{Stand}

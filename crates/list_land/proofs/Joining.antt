@@ -1,16 +1,16 @@
 -- The place of a range before the ranges above it: an overlap, or the range that it becomes and what stays behind it. Assumes nothing.
-use Prim.Native.Nat.{ℕ, suc, _+_, _-_, _*_, _/_, _%_, _<_, _≤_}
-use mathlib.Core.Bool.{Bool, true, false, cond, _||_}
-use mathlib.Core.List.{List, [], _∷_, _++_}
+use Prim.Native.Nat.{ℕ, suc, _+_, _-_, _<_, _≤_}
+use mathlib.Core.Bool.{true, false}
+use mathlib.Core.List.{List, [], _∷_}
 use mathlib.Core.Path.{_≡_, refl, sym, ap, subst, _∙_}
 use native.Mathlib.Omega.{arith}
 use lib.Dec.{eqb, ltb}
 use lib.ListN.{length}
-use borrow.Author.Tests.{eq-eqb, ne-eqb, lt-ltb, le-ltb, eqb-true, ltb-true}
+use borrow.Author.Tests.{ne-eqb, lt-ltb, eqb-true}
 use Rattle.units.specs.Words.{rangeOf}
 use Rattle.units.specs.declared.Range as units
 use Rattle.units.proofs.Tests.{by, tests}
-use Rattle.model.specs.Marks.{Range, rng, size}
+use Rattle.model.specs.Marks.{Range, size}
 use Rattle.model.specs.Lists.{Apart, total, overlaps, insert-in}
 use Rattle.model.proofs.Places.{overlaps-above, insert-apart-of, insert-join}
 use Rattle.list_words.specs.Words.{addr, struct}

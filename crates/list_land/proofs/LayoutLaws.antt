@@ -1,21 +1,19 @@
 -- The list land's layout keeps the laws of a layout. Assumes nothing.
-use Prim.Native.Nat.{ℕ, suc, _+_, _-_, _*_, _/_, _%_, _<_, _≤_}
-use mathlib.Core.Bool.{Bool, true, false}
-use mathlib.Core.List.{List, [], _∷_}
+use Prim.Native.Nat.{ℕ}
+use mathlib.Core.Bool.{true}
+use mathlib.Core.List.{List}
 use mathlib.Core.Path.{_≡_, refl, sym, ap, subst, _∙_}
 use native.Mathlib.Omega.{arith}
-use lib.Dec.{eqb}
-use lib.ListN.{length, getD}
+use lib.ListN.{length}
 use borrow.Author.Tests.{eq-eqb}
 use Rattle.units.proofs.Tests.{by}
 use Rattle.model.specs.Marks.{Range}
 use Rattle.model.specs.Lists.{Apart, Aligned, total}
-use Rattle.model.specs.Layouts.{Reading, fault, holding}
-use Rattle.model.specs.Lands as lands
+use Rattle.model.specs.Layouts.{fault, holding}
 use Rattle.model.specs.Lands.{LandLaws}
-use Rattle.list_words.specs.Words.{addr, clean, soundWalk, walkFrom}
+use Rattle.list_words.specs.Words.{addr, soundWalk, walkFrom}
 use Rattle.list_words.specs.Laying.{head-of, lay}
-use Rattle.list_words.proofs.Laid.{Laid, length-lay, laid-lay, lay-laid, laid-host}
+use Rattle.list_words.proofs.Laid.{Laid, length-lay, laid-lay, laid-host}
 use Rattle.list_words.proofs.Meeting.{walk-laid, aligned-8, few-words}
 use Rattle.list_land.specs.Layout.{base, limit, align, setUp, walkOf, sound, readOf, closed, layout}
 use Rattle.list_land.specs.declared.ListLand.{ListLand}

@@ -1,12 +1,11 @@
 -- What a call of the list land equals, by the way it takes: 5, 6, a refused step, an accepted step. Assumes nothing.
 use Prim.Native.Nat.{ℕ}
-use mathlib.Core.Bool.{Bool, true, false, cond}
+use mathlib.Core.Bool.{true, false}
 use mathlib.Core.List.{List}
-use mathlib.Core.Path.{_≡_, refl, sym, ap, _∙_}
+use mathlib.Core.Path.{_≡_}
 use lib.Dec.{eqb}
-use lib.ListN.{length}
-use Rattle.model.specs.Marks.{Range, rng}
-use Rattle.model.specs.Calls.{Call, Outcome, Step, refused, accepted}
+use Rattle.model.specs.Marks.{Range}
+use Rattle.model.specs.Calls.{Call, Step, refused, accepted}
 use Rattle.model.specs.Steps.{list-ops, step}
 use Rattle.model.specs.Lands.{land-call}
 use Rattle.list_words.specs.Laying.{lay}

@@ -1,6 +1,6 @@
 -- The ways out of the functions that find and write the place of a range, and that take a part out of one. Assumes nothing.
-use Prim.Native.Nat.{ℕ, _+_, _-_, _≤_, _<_}
-use mathlib.Core.Bool.{Bool, true, false, not, cond}
+use Prim.Native.Nat.{ℕ, _+_, _-_, _≤_}
+use mathlib.Core.Bool.{Bool, true, false}
 use mathlib.Core.List.{List, [], _∷_}
 use mathlib.Core.Logic.{⊎-elim}
 use mathlib.Core.Path.{_≡_, refl, sym, ap, ap₂, _∙_}
@@ -18,7 +18,6 @@ use Rattle.units.specs.declared.rules.Arena.{Arena}
 use Rattle.list_words.specs.Edits.{EditRoom, storeHead, storeWords}
 use Rattle.list_words.specs.Surveys.{Ready, isNone, spot, none-range}
 use Rattle.list_words.specs.Words.{addr, stepAt}
-use Rattle.list_words.specs.declared.Edit.{Edit}
 use Rattle.list_words.specs.declared.Met.{Met}
 use Rattle.list_words.specs.declared.Spot.{Spot}
 use Rattle.list_words.proofs.Met as met-type
@@ -26,7 +25,6 @@ use Rattle.list_land.specs.Cuts.{one, cutEdit, Cutting, cutLand, cutWord
 use Rattle.list_land.specs.Joins.{Following, metAfter, followingOf, joinOf, Placing, placeOf, putEdit, Putting, putChanged, putWords}
 use Rattle.list_land.specs.Layout.{base, limit, align}
 use Rattle.list_land.specs.Parts.{arenaIn, closedWith}
-use Rattle.list_land.specs.declared.Changed.{Changed}
 use Rattle.list_land.specs.declared.ListLand.{ListLand}
 use Rattle.list_land.specs.declared.insert.Join.{Join}
 use Rattle.list_land.specs.declared.insert.Place.{Place}

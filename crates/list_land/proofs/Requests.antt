@@ -1,6 +1,6 @@
 -- What the checks of a request say in a sound list, and the steps that follow. Assumes nothing.
-use Prim.Native.Nat.{ℕ, _+_, _-_, _≤_, _<_}
-use mathlib.Core.Bool.{Bool, true, false}
+use Prim.Native.Nat.{ℕ, _<_}
+use mathlib.Core.Bool.{true, false}
 use mathlib.Core.List.{List, [], _∷_}
 use mathlib.Core.Logic.{⊎-elim}
 use mathlib.Core.Path.{_≡_, refl, sym, ap, _∙_}
@@ -8,7 +8,6 @@ use native.Mathlib.Omega.{arith}
 use types.Run.{OneOf}
 use denote.Enum.Declared.{tagOf}
 use Rattle.units.specs.Rules.{rangeCheck, findCheck, goodRange, goodSize}
-use Rattle.units.specs.declared.Addr.{Addr}
 use Rattle.units.specs.declared.Range.{Range}
 use Rattle.units.specs.declared.Which.{Which}
 use Rattle.units.specs.declared.rules.Arena.{Arena}
@@ -17,7 +16,7 @@ use Rattle.units.specs.declared.rules.SizeCheck.{SizeCheck}
 use Rattle.units.proofs.rules.RangeCheck as range-type
 use Rattle.units.proofs.rules.SizeCheck as size-type
 use Rattle.model.specs.Calls.{good-range, good-size}
-use Rattle.list_land.specs.Layout.{base, limit, align, arenaOf, setUp}
+use Rattle.list_land.specs.Layout.{base, limit, align, arenaOf}
 use Rattle.list_land.specs.Parts.{arenaIn, Sought}
 use Rattle.list_land.specs.declared.ListLand.{ListLand}
 use Rattle.list_land.proofs.Sound.{Fine, fine, placed}

@@ -1,19 +1,17 @@
 -- What a good set-up and a sound list say: an arena, and ranges that are laid, apart, aligned and counted. Assumes nothing.
-use Prim.Native.Nat.{ℕ, suc, _+_, _-_, _*_, _/_, _%_, _<_, _≤_}
-use mathlib.Core.Bool.{Bool, true, false, _&&_}
-use mathlib.Core.List.{List, [], _∷_}
-use mathlib.Core.Path.{_≡_, refl, sym, ap, _∙_}
-use native.Mathlib.Omega.{arith}
+use Prim.Native.Nat.{ℕ, _-_, _/_, _%_, _<_}
+use mathlib.Core.Bool.{true}
+use mathlib.Core.List.{List}
+use mathlib.Core.Path.{_≡_, refl}
 use lib.Dec.{eqb}
 use lib.ListN.{length}
-use borrow.Author.Tests.{eqb-true, eq-eqb}
-use Rattle.units.specs.Rules.{goodAlign, arenaCheck, goodArena}
+use borrow.Author.Tests.{eqb-true}
+use Rattle.units.specs.Rules.{arenaCheck, goodArena}
 use Rattle.units.specs.Words.{wordNumber}
 use Rattle.units.specs.declared.rules.ArenaCheck.{ArenaCheck}
 use Rattle.units.proofs.Alignments.{multiple-8, align-positive}
 use Rattle.units.proofs.Facts.{GoodArena, arena-facts}
 use Rattle.units.proofs.Tests.{and-left, and-right, clash}
-use Rattle.model.specs.Marks.{Range}
 use Rattle.model.specs.Lists.{Apart, Aligned, total}
 use Rattle.list_words.specs.Words.{Ending, clean, bad-base, bad-descriptor, isClean, walkFrom, soundWalk}
 use Rattle.list_words.specs.Laying.{head-of}

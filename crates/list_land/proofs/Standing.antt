@@ -1,23 +1,21 @@
 -- Where a request stands in a sound list: the ranges in front of it, those above it, and whether it touches the one below. Assumes nothing.
-use Prim.Native.Nat.{ℕ, suc, _+_, _-_, _*_, _/_, _%_, _<_, _≤_}
-use mathlib.Core.Bool.{Bool, true, false, cond, _||_, and-false}
+use Prim.Native.Nat.{ℕ, suc, _+_, _-_, _<_, _≤_}
+use mathlib.Core.Bool.{true, false, and-false}
 use mathlib.Core.List.{List, [], _∷_, _++_, append-nil}
 use mathlib.Core.Option.{Option, none, some}
-use mathlib.Core.Path.{_≡_, refl, sym, ap, subst, _∙_}
+use mathlib.Core.Path.{_≡_, refl, sym, ap, _∙_}
 use native.Mathlib.Omega.{arith}
-use lib.Dec.{eqb, ltb}
+use lib.Dec.{eqb}
 use lib.ListN.{length}
-use borrow.Author.Tests.{eq-eqb, ne-eqb, le-ltb, eqb-true}
+use borrow.Author.Tests.{ne-eqb, le-ltb, eqb-true}
 use Rattle.units.specs.Words.{rangeOf}
 use Rattle.units.specs.declared.Range as units
 use Rattle.units.proofs.Tests.{by, tests}
 use Rattle.model.specs.Marks.{Range}
 use Rattle.model.specs.Lists.{Apart, Aligned, total, overlaps, insert-in}
 use Rattle.model.proofs.Places.{Before, apart-rest, aligned-rest, insert-below}
-use Rattle.list_words.specs.Words.{addr, stepAt, struct}
+use Rattle.list_words.specs.Words.{addr}
 use Rattle.list_words.specs.Laying.{head-of}
-use Rattle.list_words.specs.Surveys.{spot, none-range, kept-of}
-use Rattle.list_words.specs.declared.Met.{Met}
 use Rattle.list_words.specs.declared.Spot.{Spot}
 use Rattle.list_words.proofs.Aiming.{reach, kept-reach, reach-none, reach-some}
 use Rattle.list_words.proofs.Keeping.{Last, At, Behind, Placed}
@@ -25,7 +23,7 @@ use Rattle.list_words.proofs.Laid.{Laid, laid-rest, even-head}
 use Rattle.list_words.proofs.Meeting.{told-step}
 use Rattle.list_land.specs.Layout.{base, limit, align, walkOf}
 use Rattle.list_land.specs.Parts.{Sought, reachBase}
-use Rattle.list_land.specs.Joins.{Following, metAfter, followingOf, joinOf, placeOf}
+use Rattle.list_land.specs.Joins.{followingOf, joinOf, placeOf}
 use Rattle.list_land.specs.declared.ListLand.{ListLand}
 use Rattle.list_land.proofs.Joining.{Above, Over}
 use Rattle.list_land.proofs.Sound.{Fine}

@@ -1,9 +1,9 @@
 -- The ways out of a walk in a sound list: 2, and the range met. Assumes nothing.
-use Prim.Native.Nat.{ℕ, _<_}
+use Prim.Native.Nat.{ℕ}
 use mathlib.Core.Bool.{Bool, true, false}
 use mathlib.Core.List.{List}
 use mathlib.Core.Option.{Option, none, some}
-use mathlib.Core.Path.{_≡_, refl, sym, ap, _∙_}
+use mathlib.Core.Path.{_≡_, refl, sym, _∙_}
 use native.Mathlib.Omega.{arith}
 use lib.Dec.{eqb}
 use borrow.Author.Tests.{ne-eqb}
@@ -15,7 +15,7 @@ use Rattle.model.specs.Steps.{next-from}
 use Rattle.list_words.specs.declared.Aim.{Aim}
 use Rattle.list_words.specs.declared.Spot.{Spot}
 use Rattle.list_words.proofs.Aiming.{kept-from}
-use Rattle.list_words.proofs.Keeping.{At, Behind, Placed}
+use Rattle.list_words.proofs.Keeping.{Placed}
 use Rattle.list_land.specs.Calls.{walked, changed, refusedBy}
 use Rattle.list_land.specs.Layout.{base, limit, walkOf}
 use Rattle.list_land.specs.Parts.{lookOf, Sought}

@@ -1,15 +1,15 @@
 -- The ways out of the inner functions of the list land. Assumes nothing.
-use Prim.Native.Nat.{ℕ, _+_, _-_, _/_, _≤_, _<_}
-use mathlib.Core.Bool.{Bool, true, false, not, cond, _&&_, and-false}
+use Prim.Native.Nat.{ℕ, _+_, _-_, _≤_}
+use mathlib.Core.Bool.{Bool, true, false, cond}
 use mathlib.Core.List.{List, [], _∷_}
 use mathlib.Core.Logic.{⊎-elim}
 use mathlib.Core.Path.{_≡_, refl, sym, ap, ap₂, _∙_}
 use native.Mathlib.Omega.{arith}
-use lib.Dec.{eqb, ltb}
+use lib.Dec.{ltb}
 use lib.ListN.{length}
 use types.Run.{OneOf}
 use denote.Enum.Declared.{tagOf}
-use borrow.Author.Tests.{eq-eqb, ne-eqb, eqb-true, eqb-false, not-true, not-false}
+use borrow.Author.Tests.{eq-eqb, ne-eqb}
 use Rattle.units.specs.Rules.{goodAlign, arenaCheck, goodArena}
 use Rattle.units.specs.Words.{wordNumber, rangeOf}
 use Rattle.units.specs.declared.Addr.{Addr}
@@ -21,7 +21,7 @@ use Rattle.units.specs.declared.Which.{Which}
 use Rattle.units.specs.declared.rules.Arena.{Arena}
 use Rattle.units.specs.declared.rules.ArenaCheck.{ArenaCheck}
 use Rattle.units.proofs.Facts.{arena-facts}
-use Rattle.units.proofs.Tests.{by, clash}
+use Rattle.units.proofs.Tests.{by}
 use Rattle.units.proofs.rules.ArenaCheck as arena-type
 use Rattle.list_words.specs.Surveys.{Ready, kept-of, surveyOf}
 use Rattle.list_words.specs.Words.{addr}
@@ -34,10 +34,8 @@ use Rattle.list_land.specs.Cuts.{one}
 use Rattle.list_land.specs.Layout.{base, limit, align, setUp, walkOf, sound}
 use Rattle.list_land.specs.Parts.{arenaIn, chainOf, setUpOf, lookOf}
 use Rattle.list_land.specs.Shares.{shareOf, partOf}
-use Rattle.list_land.specs.declared.Found.{Found}
 use Rattle.list_land.specs.declared.ListLand.{ListLand}
 use Rattle.list_land.specs.declared.Look.{Look}
-use Rattle.list_land.specs.declared.Opened.{Opened}
 use Rattle.list_land.specs.declared.SetUp.{SetUp}
 use Rattle.list_land.proofs.Sound.{placed}
 

@@ -10,7 +10,6 @@ use units::Size;
 use units::SizeCheck;
 use units::Which;
 ghost use mathlib.Core.Path.{_≡_};
-ghost use Prim.Native.Nat.{_-_, _≤_};
 ghost use Rattle.list_land.specs.Calls.{foundNone, foundOf, found};
 ghost use Rattle.list_land.specs.Parts.{Sought, findAim};
 ghost use Rattle.list_land.specs.Shares.{Within, shareOf, partOf};

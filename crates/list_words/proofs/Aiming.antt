@@ -1,13 +1,13 @@
 -- What each aim keeps of a sorted list: the first range that reaches an address, the walk's range, what a find chooses. Assumes nothing.
-use Prim.Native.Nat.{ℕ, suc, _+_, _-_, _<_, _≤_}
-use mathlib.Core.Bool.{Bool, true, false, not, cond, _&&_, _||_, and-false}
+use Prim.Native.Nat.{ℕ, suc, _<_, _≤_}
+use mathlib.Core.Bool.{Bool, true, false, not, cond, _&&_, and-false}
 use mathlib.Core.List.{List, [], _∷_, _++_}
 use mathlib.Core.Logic.{inl, inr}
 use mathlib.Core.Option.{Option, none, some}
 use mathlib.Core.Path.{_≡_, refl, sym, ap, _∙_}
 use native.Mathlib.Omega.{arith}
-use lib.Dec.{eqb, leb, ltb}
-use borrow.Author.Tests.{ne-eqb, le-leb, lt-leb, le-ltb, lt-ltb}
+use lib.Dec.{leb, ltb}
+use borrow.Author.Tests.{ne-eqb, le-ltb, lt-ltb}
 use Rattle.units.specs.declared.Addr.{Addr}
 use Rattle.units.specs.declared.Size.{Size}
 use Rattle.units.specs.declared.Which.{Which}
@@ -15,16 +15,15 @@ use Rattle.units.proofs.Tests.{by, tests}
 use Rattle.model.specs.Marks.{Range, size}
 use Rattle.model.specs.Lists.{Apart, Mem}
 use Rattle.model.specs.Reference.{keep-if, at-least, outdone, pick}
-use Rattle.model.specs.Steps.{fit, or-else, first-fit, last-fit, choose, next-from}
-use Rattle.model.proofs.Bytes.{mem-from, mem-proper}
+use Rattle.model.specs.Steps.{or-else, first-fit, last-fit, choose, next-from}
+use Rattle.model.proofs.Bytes.{mem-from}
 use Rattle.model.proofs.Best.{in-middle}
 use Rattle.model.proofs.Choosing.{none-some}
 use Rattle.model.proofs.Picking.{pick-choose}
 use Rattle.model.proofs.Places.{Before}
 use Rattle.list_words.specs.Words.{struct}
-use Rattle.list_words.specs.Surveys.{isNone, takes, none-range, kept-of}
+use Rattle.list_words.specs.Surveys.{isNone, takes, kept-of}
 use Rattle.list_words.specs.declared.Aim.{Aim}
-use Rattle.list_words.specs.declared.Spot.{Spot}
 use Rattle.list_words.proofs.Keeping.{Placed, pick-by, kept-placed}
 
 -- the first range whose limit is at or above x

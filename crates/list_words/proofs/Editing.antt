@@ -1,11 +1,10 @@
 -- An edit of a list whose descriptors are in place: the stores lay the new list over the words, and each of them fits. Assumes nothing.
-use Prim.Native.Nat.{ℕ, suc, _+_, _-_, _*_, _/_, _%_, _<_, _≤_}
-use mathlib.Core.Bool.{Bool, true, false, cond}
+use Prim.Native.Nat.{ℕ, suc, _-_, _/_, _%_, _<_, _≤_}
+use mathlib.Core.Bool.{true, false}
 use mathlib.Core.List.{List, [], _∷_, _++_, append-assoc}
-use mathlib.Core.Path.{_≡_, refl, sym, ap, ap₂, subst, _∙_}
+use mathlib.Core.Path.{_≡_, refl, sym, ap, ap₂, _∙_}
 use native.Mathlib.Omega.{arith}
 use lib.Dec.{eqb, ltb}
-use lib.ListN.{length}
 use borrow.Author.Tests.{ne-eqb, lt-ltb}
 use Rattle.units.specs.declared.Addr.{Addr}
 use Rattle.units.specs.declared.Range as units
@@ -16,7 +15,7 @@ use Rattle.model.proofs.Places.{apart-rest, aligned-rest}
 use Rattle.list_words.specs.Words.{addr, struct}
 use Rattle.list_words.specs.Laying.{head-of, describe, lay}
 use Rattle.list_words.specs.Surveys.{none-range}
-use Rattle.list_words.specs.Edits.{Room, RoomOf, PieceRoom, plain, pieceHead, pieceWords, upperHead, firstHead, EditRoom, storeHead, pieces, storeWords}
+use Rattle.list_words.specs.Edits.{Room, PieceRoom, plain, pieceHead, pieceWords, upperHead, firstHead, EditRoom, storeHead, pieces, storeWords}
 use Rattle.list_words.specs.declared.Edit.{Edit}
 use Rattle.list_words.proofs.Laid.{Laid, lay-laid}
 use Rattle.list_words.proofs.Overlay.{lay-prefix, head-prefix}

@@ -1,26 +1,19 @@
 -- What the walk keeps of a sorted list: the range aimed at, with the range before it and the base after it. Assumes nothing.
-use Prim.Native.Nat.{ℕ, suc, _+_, _-_, _<_, _≤_}
-use mathlib.Core.Bool.{Bool, true, false, not, cond, _&&_, _||_, and-false}
+use Prim.Native.Nat.{ℕ, suc, _<_}
+use mathlib.Core.Bool.{true, false, cond}
 use mathlib.Core.List.{List, [], _∷_, _++_, append-assoc, append-nil}
 use mathlib.Core.Option.{Option, none, some}
 use mathlib.Core.Path.{_≡_, refl, sym, ap, subst, _∙_}
 use native.Mathlib.Omega.{arith}
-use lib.Dec.{eqb, leb, ltb}
-use borrow.Author.Tests.{eq-eqb, ne-eqb, le-leb, lt-leb, le-ltb, lt-ltb}
-use Rattle.units.specs.declared.Addr.{Addr}
-use Rattle.units.specs.declared.Size.{Size}
-use Rattle.units.specs.declared.Which.{Which}
+use lib.Dec.{eqb}
+use borrow.Author.Tests.{ne-eqb}
 use Rattle.units.specs.declared.Range as units
-use Rattle.units.specs.Words.{rangeOf}
-use Rattle.units.proofs.Tests.{by, tests}
-use Rattle.model.specs.Marks.{Range, rng, size}
+use Rattle.units.proofs.Tests.{by}
+use Rattle.model.specs.Marks.{Range}
 use Rattle.model.specs.Lists.{Apart}
-use Rattle.model.specs.Reference.{at-least, outdone, pick}
-use Rattle.model.specs.Steps.{fit, or-else, first-fit, last-fit, choose, next-from}
-use Rattle.model.proofs.Picking.{pick-choose}
 use Rattle.list_words.specs.Words.{addr, struct}
 use Rattle.list_words.specs.Laying.{head-of}
-use Rattle.list_words.specs.Surveys.{isNone, takes, spot, kept-on, none-range, no-spot, at-end, keeping, kept-of}
+use Rattle.list_words.specs.Surveys.{takes, kept-on, none-range, no-spot, at-end, keeping, kept-of}
 use Rattle.list_words.specs.declared.Aim.{Aim}
 use Rattle.list_words.specs.declared.Spot.{Spot}
 

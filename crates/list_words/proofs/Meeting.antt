@@ -1,21 +1,20 @@
 -- What a walk that ends cleanly has met: ranges whose descriptors are in place, apart, aligned and in the arena; and it found-then whatever is laid. Assumes nothing.
 use Prim.Native.Nat.{ℕ, zero, suc, _+_, _-_, _*_, _/_, _%_, _<_, _≤_}
-use mathlib.Core.Bool.{Bool, true, false, cond, _&&_}
+use mathlib.Core.Bool.{true, false}
 use mathlib.Core.List.{List, [], _∷_}
 use mathlib.Core.Path.{_≡_, refl, sym, ap, _∙_}
 use native.Mathlib.Omega.{arith}
 use lib.ListN.{length}
-use lib.Dec.{eqb, leb}
+use lib.Dec.{eqb}
 use borrow.Author.Tests.{eqb-true, eqb-false, eq-eqb, ne-eqb, le-leb, lt-ltb}
 use Rattle.units.specs.Rules.{goodAlign}
 use Rattle.units.specs.Words.{mayBegin, mayEnd}
-use Rattle.units.specs.declared.Addr.{Addr}
-use Rattle.units.proofs.Tests.{by, tests}
+use Rattle.units.proofs.Tests.{by}
 use Rattle.units.proofs.Alignments.{multiple-8}
 use Rattle.model.specs.Marks.{Range, rng, size}
 use Rattle.model.specs.Lists.{Apart, Aligned}
 use Rattle.model.proofs.Bytes.{apart-from}
-use Rattle.list_words.specs.Words.{addr, Ending, clean, bad-base, bad-descriptor, Walk, ends, found-then, wordAt, tagAt, nextAt, stepAt, after, walkFor, walkFrom}
+use Rattle.list_words.specs.Words.{addr, Ending, clean, bad-base, bad-descriptor, Walk, ends, tagAt, stepAt, walkFor}
 use Rattle.list_words.specs.Laying.{head-of, grain}
 use Rattle.list_words.specs.declared.Met.{Met}
 use Rattle.list_words.proofs.Walking.{Stepped, stepped}

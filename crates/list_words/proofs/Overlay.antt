@@ -1,20 +1,18 @@
 -- Which descriptors an edit has to write: those of the ranges that are new, and the link to them. Assumes nothing.
-use mathlib.Core.Path.{_≡_, refl, sym, ap, subst, _∙_}
-use mathlib.Core.Bool.{Bool, true, false, cond}
+use mathlib.Core.Path.{_≡_, refl, subst, _∙_}
 use mathlib.Core.List.{List, [], _∷_, _++_}
 use mathlib.Core.Logic.{_≢_}
-use Prim.Native.Nat.{ℕ, suc, _+_, _-_, _*_, _≤_, _<_, _%_, _/_}
+use Prim.Native.Nat.{ℕ, suc, _+_, _*_, _≤_, _<_, _%_}
 use native.Mathlib.Omega.{arith}
-use lib.Dec.{eqb}
-use lib.ListN.{length, getD, set}
+use lib.ListN.{getD, set}
 use lib.Seq.{getD-set-other}
 use borrow.Author.Tests.{eqb-false}
 use Rattle.units.specs.Words.{wordNumber}
-use Rattle.units.proofs.Tests.{by, tests}
+use Rattle.units.proofs.Tests.{by}
 use Rattle.model.specs.Marks.{Range, size}
 use Rattle.model.specs.Lists.{Apart, Aligned}
 use Rattle.list_words.specs.Laying.{head-of, grain, describe, lay}
-use Rattle.list_words.proofs.Laid.{Told, Laid, describe-told, lay-laid}
+use Rattle.list_words.proofs.Laid.{Told, Laid, describe-told}
 
 describe-other : (base : ℕ) (r : Range) (nx : ℕ) (ws : List ℕ) (i : ℕ) → i ≢ wordNumber base (r .base) → i ≢ wordNumber base (r .base + 8) →
     getD (describe base r nx ws) i 0 ≡ getD ws i 0
@@ -50,7 +48,3 @@ lay-prefix base lo hi [] p qs rs ws k z h a l = refl
 lay-prefix base lo hi (r ∷ ps) p qs rs ws k z h a l =
     lay-skip base hi r (ps ++ p ∷ qs) ws (omega arith) z (h .1) (a .0) (a .1) (h .3) (subst (λ (n : ℕ). Told base r n ws) (head-prefix ps p rs qs) (l .0))
     ∙ lay-prefix base (suc (r .limit)) hi ps p qs rs ws (omega arith) z (h .3) (a .2) (l .1)
-
--- a new range before ranges that are laid already: its own descriptor only
-pub lay-front : (base : ℕ) (r : Range) (rs : List Range) (ws : List ℕ) → Laid base rs ws → lay base (r ∷ rs) ws ≡ describe base r (head-of rs) ws
-lay-front base r rs ws l = ap (describe base r (head-of rs)) (lay-laid base rs ws l)

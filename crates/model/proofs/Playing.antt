@@ -1,7 +1,6 @@
 -- Histories: over any list of calls, with the host's writes between, what is seen is what the reference model says.
 -- One theorem for any layout that keeps its laws. Assumes nothing.
 use mathlib.Core.Path.{_≡_, refl, ap₂, subst, _∙_}
-use mathlib.Core.Bool.{Bool, true, false}
 use mathlib.Core.List.{List, [], _∷_}
 use Rattle.model.specs.Layouts.{holding, Answers, Rules, Layout, Laws, Alike, Done, call}
 use Rattle.model.specs.Histories.{Seen, seen, History, over, then, expected}

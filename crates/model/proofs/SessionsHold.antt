@@ -1,6 +1,6 @@
 -- The starred sessions of document 01, by computation. Assumes nothing.
 use mathlib.Core.Path.{_≡_, refl}
-use mathlib.Core.List.{List, map}
+use mathlib.Core.List.{map}
 use Rattle.units.specs.Rules.{rangeCheck, sizeCheck, largestCheck}
 use Rattle.model.specs.Sessions.{Session, sessions, by-reference, by-rules}
 

@@ -1,12 +1,11 @@
 -- The starred sessions of document 01, 'Sessions with known ends': their calls, and what each returns, as one list. Assumes nothing.
-use mathlib.Core.List.{List, [], _∷_, map}
+use mathlib.Core.List.{List, [], _∷_}
 use mathlib.Core.Option.{Option, none, some}
 use Prim.Native.Nat.{ℕ}
 use Rattle.units.specs.declared.Mode.{Mode}
-use Rattle.model.specs.Marks.{Range, rng, none-marked}
+use Rattle.model.specs.Marks.{rng, none-marked}
 use Rattle.units.specs.declared.Which.{Which}
 use Rattle.model.specs.Calls.{Arena, Call, insert, delete, find, Outcome, refused, accepted}
-use Rattle.model.specs.Layouts.{Rules}
 use Rattle.model.specs.Histories.{Seen, expected}
 use Rattle.model.specs.Lands.{list-rules, reference-rules}
 

@@ -1,6 +1,6 @@
 -- The rules of document 01, 'Arena, addresses, sizes', on numbers. Each check gives the first rule that is broken. Assumes nothing.
 use Prim.Native.Nat.{ℕ, zero, suc, _^_, _%_}
-use mathlib.Core.Bool.{Bool, true, false, not, cond, _&&_, _||_}
+use mathlib.Core.Bool.{Bool, false, not, cond, _&&_, _||_}
 use mathlib.Core.List.{List, [], _∷_}
 use lib.Dec.{eqb, ltb, leb}
 use Rattle.units.specs.declared.Which.{Which}

@@ -1,5 +1,4 @@
 -- `lay` meets its contract: a grain's one word, a block's two. Assumes nothing.
-use Prim.Native.Nat.{_-_}
 use Rattle.list_words.proofs.Writing.{lays}
 use borrow.Author.Needs.{needs}
 use Rattle.list_words.proofs.lay.Statement.{statement}

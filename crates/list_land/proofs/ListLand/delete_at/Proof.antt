@@ -11,7 +11,9 @@ use Rattle.list_land.proofs.ListLand.delete_at.Tie as tie
 
 -- the request keeps the rules
 good : (k : tie.After-enum-told) → let a = k .before .before .before .before .before .args in good-range (arenaOf (a .self)) (a .range .base .0) (a .range .limit .0) ≡ true
-good k = range-good (k .before .before .before .before .before .args .self) (k .before .before .before .before .before .args .range) _ (k .before .before .before .arena .ensures) _ (k .before .before .check-range .ensures) (k .enum-told .given .1)
+good k =
+    let entry = k .before .before .before .before .before in
+    range-good (entry .args .self) (entry .args .range) _ (k .before .before .before .arena .ensures) _ (k .before .before .check-range .ensures) (k .enum-told .given .1)
 
 arena-requires : tie.Need-arena-requires
 arena-requires c κs = search needs
@@ -26,7 +28,11 @@ refused-requires : tie.Need-refused-requires
 refused-requires c κs = search needs
 
 returns : tie.Need-returns
-returns c = delete-4 _ _ (c .before .before .before .before .before .args .range) _ (c .before .before .before .before .before .pre) (range-bad (c .before .before .before .before .before .args .self) (c .before .before .before .before .before .args .range) _ (c .before .before .before .arena .ensures) _ (c .before .before .check-range .ensures) (c .before .match .keys2)) _ (c .refused .ensures)
+returns c =
+    let entry = c .before .before .before .before .before in
+    delete-4 _ _ (entry .args .range) _ (entry .pre)
+    (range-bad (entry .args .self) (entry .args .range) _ (c .before .before .before .arena .ensures) _ (c .before .before .check-range .ensures) (c .before .match .keys2))
+    _ (c .refused .ensures)
 
 is-zero-requires : tie.Need-is-zero-requires
 is-zero-requires c κs = search needs
@@ -35,7 +41,10 @@ refused-requires-2 : tie.Need-refused-requires-2
 refused-requires-2 c κs = search needs
 
 returns-2 : tie.Need-returns-2
-returns-2 c = delete-behind _ _ (c .before .before .before .before .before .before .before .before .before .args .range) _ (c .before .before .before .before .before .before .before .before .before .pre) (good (c .before .before .before .before)) _ (c .before .before .is-zero .ensures) (c .before .if1 .taken) _ (c .refused2 .ensures)
+returns-2 c =
+    let checked = c .before .before .before .before in
+    let entry = checked .before .before .before .before .before in
+    delete-behind _ _ (entry .args .range) _ (entry .pre) (good checked) _ (c .before .before .is-zero .ensures) (c .before .if1 .taken) _ (c .refused2 .ensures)
 
 lt-requires : tie.Need-lt-requires
 lt-requires c κs = search needs
@@ -44,16 +53,29 @@ refused-requires-3 : tie.Need-refused-requires-3
 refused-requires-3 c κs = search needs
 
 returns-3 : tie.Need-returns-3
-returns-3 c = delete-before _ _ (c .before .before .before .before .before .before .before .before .before .before .before .args .range) _ (c .before .before .before .before .before .before .before .before .before .before .before .pre) (good (c .before .before .before .before .before .before)) _ (c .before .before .before .before .is-zero .ensures) (c .before .before .before .if1 .left) _ (c .before .before .lt .ensures) (c .before .if2 .taken) _ (c .refused3 .ensures)
+returns-3 c =
+    let checked = c .before .before .before .before .before .before in
+    let entry = checked .before .before .before .before .before in
+    delete-before _ _ (entry .args .range) _ (entry .pre) (good checked) _ (c .before .before .before .before .is-zero .ensures)
+    (c .before .before .before .if1 .left) _ (c .before .before .lt .ensures) (c .before .if2 .taken) _ (c .refused3 .ensures)
 
 cut-requires : tie.Need-cut-requires
-cut-requires c κs = delete-cutting _ _ (c .before .before .before .before .before .before .before .before .before .before .before .args .range) _ (c .before .before .before .before .before .before .before .before .before .before .before .pre) (good (c .before .before .before .before .before .before)) _ (c .before .before .before .before .is-zero .ensures) (c .before .before .before .if1 .left) _ (c .before .before .lt .ensures) (c .before .if2 .left)
+cut-requires c κs =
+    let checked = c .before .before .before .before .before .before in
+    let entry = checked .before .before .before .before .before in
+    delete-cutting _ _ (entry .args .range) _ (entry .pre) (good checked) _ (c .before .before .before .before .is-zero .ensures)
+    (c .before .before .before .if1 .left) _ (c .before .before .lt .ensures) (c .before .if2 .left)
 
 same-length : tie.Need-same-length
 same-length c = search needs
 
 returns-4 : tie.Need-returns-4
-returns-4 c = delete-0 _ _ (c .before .before .before .before .before .before .before .before .before .before .before .before .before .before .args .range) _ (c .before .before .before .before .before .before .before .before .before .before .before .before .before .before .pre) (good (c .before .before .before .before .before .before .before .before .before)) _ (c .before .before .before .before .before .before .before .is-zero .ensures) (c .before .before .before .before .before .before .if1 .left) _ (c .before .before .before .before .before .lt .ensures) (c .before .before .before .before .if2 .left) _ _ (c .before .before .cut .ensures)
+returns-4 c =
+    let checked = c .before .before .before .before .before .before .before .before .before in
+    let entry = checked .before .before .before .before .before in
+    delete-0 _ _ (entry .args .range) _ (entry .pre) (good checked) _ (c .before .before .before .before .before .before .before .is-zero .ensures)
+    (c .before .before .before .before .before .before .if1 .left) _ (c .before .before .before .before .before .lt .ensures)
+    (c .before .before .before .before .if2 .left) _ _ (c .before .before .cut .ensures)
 
 pub delete-at-spec : {M : Type 1} → statement M
 delete-at-spec =

@@ -36,13 +36,21 @@ same-length : tie.Need-same-length
 same-length c = search needs
 
 returns : tie.Need-returns
-returns c = let a = c .before .before .before .before .before .before .before .before .args in refuse-find _ _ _ 5 (answers-5 _ _ _ _ (c .before .before .before .look .ensures) _ _ (is-find _ _ (a .which) (a .size .0) (a .mode)) (c .before .enum-told .given .1)) _ (c .none-found .ensures)
+returns c =
+    let a = c .before .before .before .before .before .before .before .before .args in
+    refuse-find _ _ _ 5
+    (answers-5 _ _ _ _ (c .before .before .before .look .ensures) _ _ (is-find _ _ (a .which) (a .size .0) (a .mode)) (c .before .enum-told .given .1)) _
+    (c .none-found .ensures)
 
 same-length-2 : tie.Need-same-length-2
 same-length-2 c = search needs
 
 returns-2 : tie.Need-returns-2
-returns-2 c = let a = c .before .before .before .before .before .before .before .before .args in refuse-find _ _ _ 6 (answers-6 _ _ _ _ (c .before .before .before .look .ensures) _ _ (is-find _ _ (a .which) (a .size .0) (a .mode)) (c .before .enum-told2 .given .1)) _ (c .none-found2 .ensures)
+returns-2 c =
+    let a = c .before .before .before .before .before .before .before .before .args in
+    refuse-find _ _ _ 6
+    (answers-6 _ _ _ _ (c .before .before .before .look .ensures) _ _ (is-find _ _ (a .which) (a .size .0) (a .mode)) (c .before .enum-told2 .given .1)) _
+    (c .none-found2 .ensures)
 
 same-length-3 : tie.Need-same-length-3
 same-length-3 c = search needs

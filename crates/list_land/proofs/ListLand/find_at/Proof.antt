@@ -11,7 +11,9 @@ use Rattle.list_land.proofs.ListLand.find_at.Tie as tie
 
 -- the size keeps the rules
 good : (k : tie.After-enum-told) → let a = k .before .before .before .before .before .args in good-size (arenaOf (a .self)) (a .which) (a .size .0) ≡ true
-good k = let a = k .before .before .before .before .before .args in size-good (a .self) (a .which) (a .size .0) _ (k .before .before .before .arena .ensures) _ (k .before .before .check-find .ensures) (k .enum-told .given .1)
+good k =
+    let a = k .before .before .before .before .before .args in
+    size-good (a .self) (a .which) (a .size .0) _ (k .before .before .before .arena .ensures) _ (k .before .before .check-find .ensures) (k .enum-told .given .1)
 
 arena-requires : tie.Need-arena-requires
 arena-requires c κs = search needs
@@ -26,7 +28,11 @@ none-found-requires : tie.Need-none-found-requires
 none-found-requires c κs = search needs
 
 returns : tie.Need-returns
-returns c = find-4 _ _ (c .before .before .before .before .before .args .which) (c .before .before .before .before .before .args .size) (c .before .before .before .before .before .args .mode) _ (c .before .before .before .before .before .pre) (size-bad (c .before .before .before .before .before .args .self) (c .before .before .before .before .before .args .which) (c .before .before .before .before .before .args .size .0) _ (c .before .before .before .arena .ensures) _ (c .before .before .check-find .ensures) (c .before .match .keys2)) _ (c .none-found .ensures)
+returns c =
+    let entry = c .before .before .before .before .before in
+    find-4 _ _ (entry .args .which) (entry .args .size) (entry .args .mode) _ (entry .pre)
+    (size-bad (entry .args .self) (entry .args .which) (entry .args .size .0) _ (c .before .before .before .arena .ensures) _ (c .before .before .check-find .ensures) (c .before .match .keys2))
+    _ (c .none-found .ensures)
 
 is-zero-requires : tie.Need-is-zero-requires
 is-zero-requires c κs = search needs
@@ -35,28 +41,52 @@ none-found-requires-2 : tie.Need-none-found-requires-2
 none-found-requires-2 c κs = search needs
 
 returns-2 : tie.Need-returns-2
-returns-2 c = find-2 _ _ (c .before .before .before .before .before .before .before .before .before .args .which) (c .before .before .before .before .before .before .before .before .before .args .size) (c .before .before .before .before .before .before .before .before .before .args .mode) _ (c .before .before .before .before .before .before .before .before .before .pre) (good (c .before .before .before .before)) _ (c .before .before .is-zero .ensures) (c .before .if1 .taken) _ (c .none-found2 .ensures)
+returns-2 c =
+    let checked = c .before .before .before .before in
+    let entry = checked .before .before .before .before .before in
+    find-2 _ _ (entry .args .which) (entry .args .size) (entry .args .mode) _ (entry .pre) (good checked) _ (c .before .before .is-zero .ensures)
+    (c .before .if1 .taken) _ (c .none-found2 .ensures)
 
 find-size-requires : tie.Need-find-size-requires
 find-size-requires c κs = search needs
 
 part-requires : tie.Need-part-requires
-part-requires c κs = find-within _ _ (c .before .before .before .before .before .before .before .before .before .args .which) (c .before .before .before .before .before .before .before .before .before .args .size) (c .before .before .before .before .before .before .before .before .before .args .mode) _ (c .before .before .before .before .before .before .before .before .before .pre) (good (c .before .before .before .before)) _ (c .before .before .is-zero .ensures) (c .before .if1 .left) _ (c .before .before .before .before .before .before .before .arena .ensures) _ (c .find-size .ensures)
+part-requires c κs =
+    let checked = c .before .before .before .before in
+    let entry = checked .before .before .before .before .before in
+    find-within _ _ (entry .args .which) (entry .args .size) (entry .args .mode) _ (entry .pre) (good checked) _ (c .before .before .is-zero .ensures)
+    (c .before .if1 .left) _ (checked .before .before .before .arena .ensures) _ (c .find-size .ensures)
 
 enum-told-2 : tie.Need-enum-told-2
 enum-told-2 c = search needs
 
 returns-3 : tie.Need-returns-3
-returns-3 c = find-kept _ _ (c .before .before .before .before .before .before .before .before .before .before .before .before .args .which) (c .before .before .before .before .before .before .before .before .before .before .before .before .args .size) (c .before .before .before .before .before .before .before .before .before .before .before .before .args .mode) _ (c .before .before .before .before .before .before .before .before .before .before .before .before .pre) (good (c .before .before .before .before .before .before .before)) _ (c .before .before .before .before .before .is-zero .ensures) (c .before .before .before .before .if1 .left) (c .enum-told2 .given .1)
+returns-3 c =
+    let checked = c .before .before .before .before .before .before .before in
+    let entry = checked .before .before .before .before .before in
+    find-kept _ _ (entry .args .which) (entry .args .size) (entry .args .mode) _ (entry .pre) (good checked) _
+    (c .before .before .before .before .before .is-zero .ensures) (c .before .before .before .before .if1 .left) (c .enum-told2 .given .1)
 
 cut-requires : tie.Need-cut-requires
-cut-requires c κs = find-cutting _ _ (c .before .before .before .before .before .before .before .before .before .before .before .before .args .which) (c .before .before .before .before .before .before .before .before .before .before .before .before .args .size) (c .before .before .before .before .before .before .before .before .before .before .before .before .args .mode) _ (c .before .before .before .before .before .before .before .before .before .before .before .before .pre) (good (c .before .before .before .before .before .before .before)) _ (c .before .before .before .before .before .is-zero .ensures) (c .before .before .before .before .if1 .left) (c .before .match2 .keys2) _ (c .before .before .before .before .before .before .before .before .before .before .arena .ensures) _ (c .before .before .before .find-size .ensures) _ (c .before .before .part .ensures)
+cut-requires c κs =
+    let checked = c .before .before .before .before .before .before .before in
+    let entry = checked .before .before .before .before .before in
+    find-cutting _ _ (entry .args .which) (entry .args .size) (entry .args .mode) _ (entry .pre) (good checked) _
+    (c .before .before .before .before .before .is-zero .ensures) (c .before .before .before .before .if1 .left) (c .before .match2 .keys2) _
+    (checked .before .before .before .arena .ensures) _ (c .before .before .before .find-size .ensures) _ (c .before .before .part .ensures)
 
 same-length : tie.Need-same-length
 same-length c = search needs
 
 returns-4 : tie.Need-returns-4
-returns-4 c = find-0 _ _ (c .before .before .before .before .before .before .before .before .before .before .before .before .before .before .before .args .which) (c .before .before .before .before .before .before .before .before .before .before .before .before .before .before .before .args .size) (c .before .before .before .before .before .before .before .before .before .before .before .before .before .before .before .args .mode) _ (c .before .before .before .before .before .before .before .before .before .before .before .before .before .before .before .pre) (good (c .before .before .before .before .before .before .before .before .before .before)) _ (c .before .before .before .before .before .before .before .before .is-zero .ensures) (c .before .before .before .before .before .before .before .if1 .left) (c .before .before .before .before .match2 .keys2) _ (c .before .before .before .before .before .before .before .before .before .before .before .before .before .arena .ensures) _ (c .before .before .before .before .before .before .find-size .ensures) _ (c .before .before .before .before .before .part .ensures) _ _ (c .before .before .cut .ensures)
+returns-4 c =
+    let checked = c .before .before .before .before .before .before .before .before .before .before in
+    let entry = checked .before .before .before .before .before in
+    find-0 _ _ (entry .args .which) (entry .args .size) (entry .args .mode) _ (entry .pre) (good checked) _
+    (c .before .before .before .before .before .before .before .before .is-zero .ensures)
+    (c .before .before .before .before .before .before .before .if1 .left) (c .before .before .before .before .match2 .keys2) _
+    (checked .before .before .before .arena .ensures) _ (c .before .before .before .before .before .before .find-size .ensures) _
+    (c .before .before .before .before .before .part .ensures) _ _ (c .before .before .cut .ensures)
 
 pub find-at-spec : {M : Type 1} → statement M
 find-at-spec =

@@ -1,6 +1,6 @@
 -- `ListLand::following` meets its contract. Assumes nothing.
 use Rattle.list_land.proofs.PlaceWays.{after-ways}
-use Rattle.list_land.proofs.PlaceWays.{after-ways, after-ready}
+use Rattle.list_land.proofs.PlaceWays.{after-ways}
 use borrow.Author.Needs.{needs}
 use Rattle.list_land.proofs.ListLand.following.Statement.{statement}
 use Rattle.list_land.proofs.ListLand.following.Tie as tie

@@ -30,13 +30,21 @@ same-length : tie.Need-same-length
 same-length c = search needs
 
 returns : tie.Need-returns
-returns c = refuse-change _ _ _ 5 (answers-5 _ _ _ _ (c .before .before .before .look .ensures) _ _ (is-insert _ _ (c .before .before .before .before .before .before .before .args .range)) (c .before .enum-told .given .1)) _ (c .refused .ensures)
+returns c =
+    let entry = c .before .before .before .before .before .before .before in
+    refuse-change _ _ _ 5
+    (answers-5 _ _ _ _ (c .before .before .before .look .ensures) _ _ (is-insert _ _ (entry .args .range)) (c .before .enum-told .given .1)) _
+    (c .refused .ensures)
 
 same-length-2 : tie.Need-same-length-2
 same-length-2 c = search needs
 
 returns-2 : tie.Need-returns-2
-returns-2 c = refuse-change _ _ _ 6 (answers-6 _ _ _ _ (c .before .before .before .look .ensures) _ _ (is-insert _ _ (c .before .before .before .before .before .before .before .args .range)) (c .before .enum-told2 .given .1)) _ (c .refused2 .ensures)
+returns-2 c =
+    let entry = c .before .before .before .before .before .before .before in
+    refuse-change _ _ _ 6
+    (answers-6 _ _ _ _ (c .before .before .before .look .ensures) _ _ (is-insert _ _ (entry .args .range)) (c .before .enum-told2 .given .1)) _
+    (c .refused2 .ensures)
 
 same-length-3 : tie.Need-same-length-3
 same-length-3 c = search needs

@@ -11,7 +11,9 @@ use Rattle.list_land.proofs.ListLand.insert_at.Tie as tie
 
 -- the request keeps the rules
 good : (k : tie.After-enum-told) → let a = k .before .before .before .before .before .args in good-range (arenaOf (a .self)) (a .range .base .0) (a .range .limit .0) ≡ true
-good k = range-good (k .before .before .before .before .before .args .self) (k .before .before .before .before .before .args .range) _ (k .before .before .before .arena .ensures) _ (k .before .before .check-range .ensures) (k .enum-told .given .1)
+good k =
+    let entry = k .before .before .before .before .before in
+    range-good (entry .args .self) (entry .args .range) _ (k .before .before .before .arena .ensures) _ (k .before .before .check-range .ensures) (k .enum-told .given .1)
 
 arena-requires : tie.Need-arena-requires
 arena-requires c κs = search needs
@@ -26,7 +28,11 @@ refused-requires : tie.Need-refused-requires
 refused-requires c κs = search needs
 
 returns : tie.Need-returns
-returns c = insert-4 _ _ (c .before .before .before .before .before .args .range) _ (c .before .before .before .before .before .pre) (range-bad (c .before .before .before .before .before .args .self) (c .before .before .before .before .before .args .range) _ (c .before .before .before .arena .ensures) _ (c .before .before .check-range .ensures) (c .before .match .keys2)) _ (c .refused .ensures)
+returns c =
+    let entry = c .before .before .before .before .before in
+    insert-4 _ _ (entry .args .range) _ (entry .pre)
+    (range-bad (entry .args .self) (entry .args .range) _ (c .before .before .before .arena .ensures) _ (c .before .before .check-range .ensures) (c .before .match .keys2))
+    _ (c .refused .ensures)
 
 place-requires : tie.Need-place-requires
 place-requires c κs = insert-placing _ _ (c .before .before .before .before .before .before .args .range) _ (c .before .before .before .before .before .before .pre) (good (c .before))
@@ -44,16 +50,27 @@ same-length : tie.Need-same-length
 same-length c = search needs
 
 returns-2 : tie.Need-returns-2
-returns-2 c = insert-1 _ _ (c .before .before .before .before .before .before .before .before .before .before .args .range) _ (c .before .before .before .before .before .before .before .before .before .before .pre) (good (c .before .before .before .before .before)) _ (c .before .before .before .place .ensures) (c .before .enum-told2 .given .1) _ (c .refused2 .ensures)
+returns-2 c =
+    let checked = c .before .before .before .before .before in
+    let entry = checked .before .before .before .before .before in
+    insert-1 _ _ (entry .args .range) _ (entry .pre) (good checked) _ (c .before .before .before .place .ensures) (c .before .enum-told2 .given .1) _
+    (c .refused2 .ensures)
 
 put-requires : tie.Need-put-requires
-put-requires c κs = insert-putting _ _ (c .before .before .before .before .before .before .before .before .before .before .before .args .range) _ (c .before .before .before .before .before .before .before .before .before .before .before .pre) (good (c .before .before .before .before .before .before)) _ (c .before .before .before .before .place .ensures) _ (c .before .before .p .given .1)
+put-requires c κs =
+    let checked = c .before .before .before .before .before .before in
+    let entry = checked .before .before .before .before .before in
+    insert-putting _ _ (entry .args .range) _ (entry .pre) (good checked) _ (c .before .before .before .before .place .ensures) _ (c .before .before .p .given .1)
 
 same-length-2 : tie.Need-same-length-2
 same-length-2 c = search needs
 
 returns-3 : tie.Need-returns-3
-returns-3 c = insert-0 _ _ (c .before .before .before .before .before .before .before .before .before .before .before .before .before .before .args .range) _ (c .before .before .before .before .before .before .before .before .before .before .before .before .before .before .pre) (good (c .before .before .before .before .before .before .before .before .before)) _ (c .before .before .before .before .before .before .before .place .ensures) _ (c .before .before .before .before .before .p .given .1) _ _ (c .before .before .put .ensures)
+returns-3 c =
+    let checked = c .before .before .before .before .before .before .before .before .before in
+    let entry = checked .before .before .before .before .before in
+    insert-0 _ _ (entry .args .range) _ (entry .pre) (good checked) _ (c .before .before .before .before .before .before .before .place .ensures) _
+    (c .before .before .before .before .before .p .given .1) _ _ (c .before .before .put .ensures)
 
 pub insert-at-spec : {M : Type 1} → statement M
 insert-at-spec =
