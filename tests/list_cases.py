@@ -3,8 +3,8 @@
 
 Run from the top of the repository: python3 tests/list_cases.py. The same files come out each time.
 
-The model below is made from the text of document 01 (arena, handles, words of the list land, calls, answer numbers) and
-not from the Rattle code, with which it shares no code. What is free is a Python set of bytes; the isolated ranges are the
+The model below follows the text of document 01 (arena, handles, words of the list land, calls, answer numbers) and shares
+no code with the Rattle code. It was not written blind: its author had read `units` and `list_land` before. What is free is a Python set of bytes; the isolated ranges are the
 runs of that set; a list of words is read by a walk of its own. It then plays 01's sessions and edges (and asserts what 01
 states of them), every insert and delete in a small arena, histories, bad set-ups, damaged handles and damaged words.
 
