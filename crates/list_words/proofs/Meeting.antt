@@ -1,4 +1,4 @@
--- What a walk that ends cleanly has met: ranges whose descriptors are in place, apart, aligned and in the arena; and it found-then whatever is laid. Assumes nothing.
+-- What a walk that ends cleanly has met: ranges whose descriptors are in place, apart, aligned and in the arena; and it meets whatever is laid. Assumes nothing.
 use Prim.Native.Nat.{ℕ, zero, suc, _+_, _-_, _*_, _/_, _%_, _<_, _≤_}
 use mathlib.Core.Bool.{true, false}
 use mathlib.Core.List.{List, [], _∷_}
@@ -108,7 +108,7 @@ module _ (b l a : ℕ) (ws : List ℕ) where
       let w : n - 0 ≡ n = omega arith in
       simp (le-leb low (r .base) p, eq-eqb (r .base % a) 0 u, lt-ltb (r .base) l (omega arith), e, ev, f, le-leb (r .limit) l s, eq-eqb (r .limit % a) 0 v, le-leb (r .base + 16) (r .limit) k, w))
 
-  -- the walk over descriptors in place found-then their ranges
+  -- the walk over descriptors in place meets their ranges
   pub walk-laid : (rs : List Range) (n low : ℕ) → length rs ≤ n → 0 < low → Apart low l rs → Aligned a rs → Aligned 8 rs → Laid b rs ws →
       walkFor b l a ws n low (head-of rs) ≡ record { met = rs; end = clean }
   unfolding walkFor

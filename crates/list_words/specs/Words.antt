@@ -1,4 +1,4 @@
--- The words of the list land: what a walk from head found-then, and how it ends. Assumes nothing.
+-- The words of the list land: what a walk from head meets, and how it ends. Assumes nothing.
 use Prim.Native.Nat.{ℕ, zero, suc, _+_, _-_, _%_}
 use mathlib.Core.Bool.{Bool, true, false, cond, _&&_}
 use mathlib.Core.List.{List, [], _∷_}

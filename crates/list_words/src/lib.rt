@@ -23,7 +23,7 @@ pub enum Met {
     BadDescriptor,
 }
 
-// A range of the list, with the range before it and the base of the one after it. None of them is (0, 0), and 0.
+// A range of the list, with the range before it and the base of the one after it. Where there is none: (0, 0), and 0.
 pub struct Spot {
     pub prev: Range,
     pub here: Range,
