@@ -7,22 +7,21 @@ use native.Mathlib.Omega.{arith}
 use Rattle.units.specs.declared.Mode.{Mode}
 use Rattle.units.specs.declared.Range.{Range}
 use Rattle.units.specs.declared.Which.{Which}
+use Rattle.units.specs.declared.aims.Aim.{Aim}
 use Rattle.units.proofs.Tests.{by}
-use Rattle.model.specs.Marks as marks
 use Rattle.model.specs.Calls.{Call, insert, delete, find, walk, refused}
 use Rattle.model.specs.Lands.{land-call}
-use Rattle.model.specs.Layouts.{Reading, fault, holding}
+use Rattle.model.proofs.Outcomes.{call-fault, fault-number}
 use Rattle.list_words.specs.Surveys.{kept-of}
-use Rattle.list_words.specs.declared.Aim.{Aim}
 use Rattle.list_words.specs.declared.Spot.{Spot}
 use Rattle.list_land.specs.Calls.{LandDone, inserted, deleted, found, walked, changed, foundOf, refusedBy, foundNone}
-use Rattle.list_land.specs.Layout.{base, limit, setUp, walkOf, sound, readOf, layout}
+use Rattle.list_land.specs.Layout.{setUp, walkOf, sound, readOf, layout}
 use Rattle.list_land.specs.Parts.{lookNumber, lookOf, Sought}
 use Rattle.list_land.specs.declared.Changed.{Changed}
 use Rattle.list_land.specs.declared.Found.{Found}
 use Rattle.list_land.specs.declared.ListLand.{ListLand}
 use Rattle.list_land.specs.declared.Look.{Look}
-use Rattle.list_land.proofs.Outcomes.{call-5, call-6}
+use Rattle.list_land.proofs.LayoutLaws.{reads-5, reads-6}
 
 -- WHAT A LOOK SAYS
 module _ (h : ListLand) (ws : List ℕ) (aim : Aim) (v : Look) (e : v ≡ lookOf h ws aim) where
@@ -54,12 +53,8 @@ module _ (h : ListLand) (ws : List ℕ) (aim : Aim) (v : Look) (e : v ≡ lookOf
       (λ a. let q : v ≡ Look.BadSetUp = rw a at e in let z : _≡_ {A = ℕ} 0 1 = cc in absurd (omega arith))
 
 -- the number of a look is the number that the handle and the words are read with
-pub fault-number : Reading (List marks.Range) → ℕ
-fault-number (fault n) = n
-fault-number (holding rs) = 0
-
 pub look-number : (h : ListLand) (ws : List ℕ) (aim : Aim) → lookNumber (lookOf h ws aim) ≡ fault-number (readOf h ws)
-unfolding lookOf readOf fault-number
+unfolding lookOf readOf
 look-number h ws aim =
     by (setUp h ws) (λ a. by (sound h ws) (λ b. rw (a, b)) (λ b. rw (a, b))) (λ a. rw a)
 
@@ -91,7 +86,7 @@ module _ (h : ListLand) (ws : List ℕ) (d : LandDone) (n : ℕ) (e : d ≡ reco
 -- 5 and 6, of any call
 module _ (h : ListLand) (ws : List ℕ) (aim : Aim) (v : Look) (e : v ≡ lookOf h ws aim) (c : Call) (d : LandDone) (ed : d ≡ land-call layout c h ws) where
   pub answers-5 : v ≡ Look.BadSetUp → d ≡ record { out = refused 5; handle = h; words = ws }
-  answers-5 f = ed ∙ call-5 c h ws (saw-bad h ws aim v e f)
+  answers-5 f = ed ∙ call-fault layout c h ws 5 (reads-5 h ws (saw-bad h ws aim v e f))
 
   pub answers-6 : v ≡ Look.Damaged → d ≡ record { out = refused 6; handle = h; words = ws }
-  answers-6 f = let s = saw-damaged h ws aim v e f in ed ∙ call-6 c h ws (s .0) (s .1)
+  answers-6 f = let s = saw-damaged h ws aim v e f in ed ∙ call-fault layout c h ws 6 (reads-6 h ws (s .0) (s .1))

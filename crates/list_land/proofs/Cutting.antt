@@ -1,44 +1,29 @@
 -- A part taken out of a range of a sound list: the stores and the next handle are those of the list without it. Assumes nothing.
-use Prim.Native.Nat.{ℕ, suc, _+_, _-_, _%_, _<_, _≤_}
-use mathlib.Core.Bool.{Bool, true, false, cond}
-use mathlib.Core.List.{List, [], _∷_, _++_}
-use mathlib.Core.Path.{_≡_, refl, sym, ap, _∙_}
+use Prim.Native.Nat.{ℕ, _+_, _-_, _%_, _<_, _≤_}
+use mathlib.Core.Bool.{true}
+use mathlib.Core.List.{List, _∷_, _++_}
+use mathlib.Core.Path.{_≡_, sym, ap, _∙_}
 use native.Mathlib.Omega.{arith}
-use lib.Dec.{ltb}
 use lib.ListN.{length, length-append}
 use Rattle.units.specs.declared.Range as units
+use Rattle.units.specs.Words.{addr, one}
 use Rattle.model.specs.Marks.{Range}
 use Rattle.model.specs.Lists.{Apart, total, holds, piece, delete-from}
 use Rattle.model.proofs.Best.{in-middle}
 use Rattle.model.proofs.Deleting.{delete-apart, delete-aligned}
 use Rattle.model.proofs.Parts.{mem-stands}
-use Rattle.model.proofs.Places.{total-append, remains, delete-at, length-piece, total-piece}
-use Rattle.list_words.specs.Words.{addr}
+use Rattle.model.proofs.Places.{total-append, remains, delete-at, length-piece}
+use Rattle.model.proofs.Totals.{total-delete, total-small, length-small}
 use Rattle.list_words.specs.Laying.{head-of, lay}
-use Rattle.list_words.specs.Edits.{storeHead}
+use Rattle.list_edits.specs.Edits.{storeHead}
 use Rattle.list_words.specs.declared.Spot.{Spot}
 use Rattle.list_words.proofs.Laid.{Laid, laid-rest}
 use Rattle.list_words.proofs.Keeping.{At}
-use Rattle.list_words.proofs.Editing.{edited, Stored, stored}
+use Rattle.list_edits.proofs.Editing.{edited, Stored, stored}
 use Rattle.list_land.specs.Layout.{base, limit, align, walkOf, closed}
-use Rattle.list_land.specs.Cuts.{one, cutEdit, Cutting, cutLand, cutWords}
+use Rattle.list_land.specs.Cuts.{cutEdit, Cutting, cutLand, cutWords}
 use Rattle.list_land.specs.declared.ListLand.{ListLand}
 use Rattle.list_land.proofs.Sound.{Fine}
-
-one-piece : (t : Bool) → one t ≡ cond t 1 0
-one-piece true = refl
-one-piece false = refl
-
--- sorted ranges have no more bytes than they span
-pub total-small : (lo hi : ℕ) (rs : List Range) → lo ≤ suc hi → Apart lo hi rs → total rs + lo ≤ suc hi
-total-small lo hi [] k h = omega arith
-total-small lo hi (r ∷ rs) k h =
-    let t = total-small (suc (r .limit)) hi rs (omega arith) (h .3) in omega arith
-
--- and are no more than their bytes
-pub length-small : (lo hi : ℕ) (rs : List Range) → Apart lo hi rs → length rs ≤ total rs
-length-small lo hi [] h = omega arith
-length-small lo hi (r ∷ rs) h = let t = length-small (suc (r .limit)) hi rs (h .3) in omega arith
 
 -- so the counts of a sound list are far from too large
 pub record Small (h : ListLand) : Type 0 where
@@ -91,21 +76,16 @@ module _ (h : ListLand) (ws : List ℕ) (f : Fine h ws) (q : Range) (s : Spot) (
       (rw (cut-edited, ← cut-new) (delete-aligned 8 b l met b8 l8 (f .aligned)))
 
   -- the counts of what is left
-  cut-count : h .ranges - 1 + one (ltb (s .here .base .0) b) + one (ltb l (s .here .limit .0)) ≡ length (delete-from b l met)
+  cut-count : h .ranges - 1 + one (cutEdit s y .low) + one (cutEdit s y .high) ≡ length (delete-from b l met)
   cut-count =
       let n : h .ranges ≡ length (p .front ++ q ∷ p .rest) = f .count ∙ ap length (p .split) in
       let m = length-append (p .front) (q ∷ p .rest) in
       let u = length-piece (q .base) b (piece l (q .limit) (p .rest)) in
       let v = length-piece l (q .limit) (p .rest) in
-      rw (p .here, cut-new, length-append, one-piece, one-piece) (omega arith)
+      rw (p .here, cut-new, length-append) (omega arith)
 
   cut-bytes : h .bytes .0 - (l - b) ≡ total (delete-from b l met)
-  cut-bytes =
-      let n : h .bytes .0 ≡ total (p .front ++ q ∷ p .rest) = f .bytes ∙ ap total (p .split) in
-      let m = total-append (p .front) (q ∷ p .rest) in
-      let u = total-piece (q .base) b (piece l (q .limit) (p .rest)) low in
-      let v = total-piece l (q .limit) (p .rest) high in
-      rw (cut-new, total-append) (omega arith)
+  cut-bytes = let n = f .bytes in let t = total-delete b l (base h) (limit h) met proper (f .apart) cut-held in omega arith
 
   -- what a cut comes to
   pub record Cut : Type 0 where

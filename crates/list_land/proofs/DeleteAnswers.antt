@@ -13,23 +13,23 @@ use Rattle.units.proofs.Alignments.{multiple-8}
 use Rattle.units.proofs.Tests.{clash}
 use Rattle.model.specs.Calls.{delete, good-range}
 use Rattle.model.specs.Lists.{holds, holder, delete-from}
-use Rattle.model.specs.Marks.{Range, rng}
+use Rattle.model.specs.Marks.{Range, rng, struct}
 use Rattle.model.specs.Answers.{RangeRules}
 use Rattle.model.proofs.Places.{Before, apart-rest, holds-below, holder-below, holder-here, holds-above}
 use Rattle.model.proofs.Requests.{range-rules}
-use Rattle.list_words.specs.Words.{struct}
+use Rattle.model.proofs.Reaching.{reach, reach-none, reach-some}
+use Rattle.model.proofs.Outcomes.{call-refused, call-accepted}
 use Rattle.list_words.specs.declared.Spot.{Spot}
-use Rattle.list_words.proofs.Aiming.{reach, kept-reach, reach-none, reach-some}
-use Rattle.list_words.proofs.Keeping.{At, Placed}
+use Rattle.list_words.proofs.Keeping.{At, Placed, kept-reach}
 use Rattle.list_land.specs.Calls.{deleted, changed, refusedBy}
 use Rattle.list_land.specs.Cuts.{Cutting, cutLand, cutWords}
-use Rattle.list_land.specs.Layout.{base, limit, align, arenaOf, walkOf, closed}
+use Rattle.list_land.specs.Layout.{base, limit, align, arenaOf, walkOf, closed, layout}
 use Rattle.list_land.specs.Parts.{Sought, reachLimit}
 use Rattle.list_land.specs.declared.Changed.{Changed}
 use Rattle.list_land.specs.declared.ListLand.{ListLand}
 use Rattle.list_land.proofs.Answers.{is-delete, refuse-change}
 use Rattle.list_land.proofs.Cutting.{Cut, cut-done}
-use Rattle.list_land.proofs.Outcomes.{call-refused, call-accepted}
+use Rattle.list_land.proofs.LayoutLaws.{held}
 use Rattle.list_land.proofs.Requests.{sought-fine}
 use Rattle.list_land.proofs.Sound.{Fine}
 
@@ -48,7 +48,7 @@ module _ (h : ListLand) (ws : List ℕ) (y : units.Range) (s : Spot) (k : Sought
 
   pub delete-4 : good-range (arenaOf h) b l ≡ false → (w : Changed) → w ≡ refusedBy h 4 → (w ≡ changed (deleted h ws y)) × (ws ≡ deleted h ws y .words)
   delete-4 g w e =
-      refuse-change h ws (deleted h ws y) 4 (is-delete h ws y ∙ call-refused (delete b l) h ws (k .good) (k .whole) 4 refl (rw g)) w e
+      refuse-change h ws (deleted h ws y) 4 (is-delete h ws y ∙ call-refused layout (delete b l) h ws (walkOf h ws .met) (held h ws (k .good) (k .whole)) 4 refl (rw g)) w e
 
   module _ (g : good-range (arenaOf h) b l ≡ true) where
     rules : RangeRules (arenaOf h) b l
@@ -63,7 +63,7 @@ module _ (h : ListLand) (ws : List ℕ) (y : units.Range) (s : Spot) (k : Sought
 
     no-1 : holds b l met ≡ false → (w : Changed) → w ≡ refusedBy h 1 → (w ≡ changed (deleted h ws y)) × (ws ≡ deleted h ws y .words)
     no-1 o w e =
-        refuse-change h ws (deleted h ws y) 1 (is-delete h ws y ∙ call-refused (delete b l) h ws (k .good) (k .whole) 1 refl (rw (g, o))) w e
+        refuse-change h ws (deleted h ws y) 1 (is-delete h ws y ∙ call-refused layout (delete b l) h ws (walkOf h ws .met) (held h ws (k .good) (k .whole)) 1 refl (rw (g, o))) w e
 
     -- no range reaches it
     pub delete-behind : (r : Bool) → r ≡ eqb (s .here .base .0) 0 → r ≡ true → (w : Changed) → w ≡ refusedBy h 1 →
@@ -132,7 +132,7 @@ module _ (h : ListLand) (ws : List ℕ) (y : units.Range) (s : Spot) (k : Sought
         delete-0 n ws' q =
             let new = delete-from b l met in
             let o = held-here in
-            let d = is-delete h ws y ∙ call-accepted (delete b l) h ws (k .good) (k .whole) (holder b l met) (rng 0 0) new (rw (g, o .0)) in
+            let d = is-delete h ws y ∙ call-accepted layout (delete b l) h ws (walkOf h ws .met) (held h ws (k .good) (k .whole)) (holder b l met) (rng 0 0) new (rw (g, o .0)) in
             let e1 : n ≡ closed h new = q .0 ∙ cut-here .land in
             let e2 : s .here ≡ struct (holder b l met) = reached .at .here ∙ sym (ap struct (o .1)) in
             (rw d (λ i. record { land = e1 i; answer = 0; range = e2 i }), rw d (q .1 ∙ cut-here .words))

@@ -2,7 +2,6 @@
 use Prim.Native.Nat.{ℕ, _≤_, _<_}
 use mathlib.Core.Bool.{Bool, true, false}
 use mathlib.Core.List.{List, [], _∷_}
-use mathlib.Core.Logic.{⊎-elim}
 use mathlib.Core.Option.{Option, none, some}
 use mathlib.Core.Path.{_≡_, refl, sym, ap, ap₂, _∙_}
 use native.Mathlib.Omega.{arith}
@@ -17,35 +16,34 @@ use Rattle.units.specs.declared.Range as units
 use Rattle.units.specs.declared.Size.{Size}
 use Rattle.units.specs.declared.Which.{Which}
 use Rattle.units.specs.declared.rules.Arena.{Arena}
+use Rattle.units.specs.declared.aims.Aim.{Aim}
 use Rattle.units.proofs.Alignments.{multiple-8}
 use Rattle.units.proofs.Mode as mode-type
 use Rattle.units.proofs.Tests.{clash}
-use Rattle.model.specs.Calls.{find, accepted, good-size}
+use Rattle.model.specs.Calls.{find, good-size}
 use Rattle.model.specs.Lists.{delete-from}
-use Rattle.model.specs.Marks.{Range, size}
-use Rattle.model.specs.Steps.{list-ops, choose, part, taken, step}
+use Rattle.model.specs.Marks.{Range, size, struct, plain}
+use Rattle.model.specs.Steps.{choose, part, taken}
 use Rattle.model.proofs.Choosing.{choose-mem}
 use Rattle.model.proofs.Parts.{Takes, mem-stands, part-takes}
 use Rattle.model.proofs.Places.{apart-rest}
 use Rattle.model.proofs.Requests.{find-size-rules}
-use Rattle.list_words.specs.Words.{struct}
-use Rattle.list_words.specs.declared.Aim.{Aim}
+use Rattle.model.proofs.Finding.{find-none, find-takes}
+use Rattle.model.proofs.Outcomes.{call-refused, call-accepted}
+use Rattle.finds.specs.Parts.{Within}
 use Rattle.list_words.specs.declared.Spot.{Spot}
-use Rattle.list_words.proofs.Aiming.{kept-find}
-use Rattle.list_words.proofs.Keeping.{At, Placed}
+use Rattle.list_words.proofs.Keeping.{At, Placed, kept-find}
 use Rattle.list_words.proofs.Laid.{lay-laid}
 use Rattle.list_land.specs.Calls.{found, foundOf, foundNone}
 use Rattle.list_land.specs.Cuts.{Cutting, cutLand, cutWords}
-use Rattle.list_land.specs.Layout.{base, limit, align, arenaOf, walkOf, closed}
+use Rattle.list_land.specs.Layout.{base, limit, align, arenaOf, walkOf, closed, layout}
 use Rattle.list_land.specs.Parts.{arenaIn, lookOf, Sought, findAim}
-use Rattle.list_land.specs.Shares.{Within, partOf}
 use Rattle.list_land.specs.declared.Found.{Found}
 use Rattle.list_land.specs.declared.ListLand.{ListLand}
 use Rattle.list_land.specs.declared.Look.{Look}
 use Rattle.list_land.proofs.Answers.{is-find, refuse-find, saw-sound}
 use Rattle.list_land.proofs.Cutting.{Cut, cut-done}
-use Rattle.list_land.proofs.LayoutLaws.{handle-back}
-use Rattle.list_land.proofs.Outcomes.{call-refused, call-accepted}
+use Rattle.list_land.proofs.LayoutLaws.{held, handle-back}
 use Rattle.list_land.proofs.Requests.{sought-fine}
 use Rattle.list_land.proofs.Sound.{Fine}
 
@@ -56,37 +54,6 @@ find-sought h ws w n a ea m em v ev s f =
     let e : m .0 ≡ findSize (align h) (n .0) = em ∙ ap (λ (x : Arena). findSize (x .align .0) (n .0)) ea in
     let g : v ≡ lookOf h ws (findAim h w n) = ev ∙ ap (λ (x : ℕ). lookOf h ws (Aim.Find w (record { 0 = x }))) e in
     saw-sound h ws (findAim h w n) v g s f
-
-part-none : (w : Which) (n : ℕ) (r : Range) → part w Mode.None n r ≡ r
-part-none Which.First n r = refl
-part-none Which.Last n r = refl
-part-none Which.Largest n r = refl
-
-part-struct : (w : Which) (mode : Mode) (n : ℕ) (r : Range) → partOf w mode n (struct r) ≡ struct (part w mode n r)
-part-struct Which.First Mode.None n r = refl
-part-struct Which.First Mode.Low n r = refl
-part-struct Which.First Mode.High n r = refl
-part-struct Which.First Mode.Entire n r = refl
-part-struct Which.Last Mode.None n r = refl
-part-struct Which.Last Mode.Low n r = refl
-part-struct Which.Last Mode.High n r = refl
-part-struct Which.Last Mode.Entire n r = refl
-part-struct Which.Largest mode n r = refl
-
--- the step of a find that removes nothing
-kept-step : (h : ListLand) (w : Which) (n : ℕ) (mode : Mode) (rs : List Range) (q : Range) → mode ≡ Mode.None → good-size (arenaOf h) w n ≡ true →
-    choose w (findSize (align h) n) rs ≡ some q → step list-ops (arenaOf h) (find w n mode) rs ≡ record { out = accepted q q; next = rs }
-kept-step h w n mode rs q m g c =
-    rw (g, c) (ap (λ (x : Mode). record { out = accepted (part w x (findSize (align h) n) q) q; next = taken list-ops (arenaOf h) x rs (part w x (findSize (align h) n) q) }) m
-    ∙ ap (λ (x : Range). record { out = accepted x q; next = rs }) (part-none w (findSize (align h) n) q))
-
--- every mode but none takes the part out
-taken-out : (a : _) (mode : Mode) (rs : List Range) (f : Range) → OneOf (1 ∷ 2 ∷ 3 ∷ []) (tagOf mode-type.the-type mode) →
-    taken list-ops a mode rs f ≡ delete-from (f .base) (f .limit) rs
-taken-out a Mode.None rs f t = absurd (⊎-elim (λ x. omega arith) (⊎-elim (λ x. omega arith) (λ x. omega arith)) t)
-taken-out a Mode.Low rs f t = refl
-taken-out a Mode.High rs f t = refl
-taken-out a Mode.Entire rs f t = refl
 
 module _ (h : ListLand) (ws : List ℕ) (w : Which) (n : Size) (mode : Mode) (s : Spot) (k : Sought h ws (findAim h w n) s) where
   abbrev met : List Range
@@ -103,7 +70,7 @@ module _ (h : ListLand) (ws : List ℕ) (w : Which) (n : Size) (mode : Mode) (s 
 
   pub find-4 : good-size (arenaOf h) w (n .0) ≡ false → (v : Found) → v ≡ foundNone h 4 → Gives v ws
   find-4 g v e =
-      refuse-find h ws (found h ws w (n .0) mode) 4 (is-find h ws w (n .0) mode ∙ call-refused (find w (n .0) mode) h ws (k .good) (k .whole) 4 refl (rw g)) v e
+      refuse-find h ws (found h ws w (n .0) mode) 4 (is-find h ws w (n .0) mode ∙ call-refused layout (find w (n .0) mode) h ws (walkOf h ws .met) (held h ws (k .good) (k .whole)) 4 refl (rw g)) v e
 
   module _ (g : good-size (arenaOf h) w (n .0) ≡ true) where
     chosen : Placed met (choose w want met) s
@@ -115,7 +82,7 @@ module _ (h : ListLand) (ws : List ℕ) (w : Which) (n : Size) (mode : Mode) (s 
         go : (o : Option Range) → choose w want met ≡ o → Placed met o s → Gives v ws
         go none f p =
             refuse-find h ws (found h ws w (n .0) mode) 2
-            (is-find h ws w (n .0) mode ∙ call-refused (find w (n .0) mode) h ws (k .good) (k .whole) 2 refl (rw (g, f))) v e
+            (is-find h ws w (n .0) mode ∙ call-refused layout (find w (n .0) mode) h ws (walkOf h ws .met) (held h ws (k .good) (k .whole)) 2 refl (rw (g, f))) v e
         go (some q) f p = clash (sym er ∙ t) (rw (p .here) (ne-eqb (q .base) 0 (λ z. omega (arith, p .above))))
 
     module _ (r : Bool) (er : r ≡ eqb (s .here .base .0) 0) (t : r ≡ false) where
@@ -149,20 +116,20 @@ module _ (h : ListLand) (ws : List ℕ) (w : Which) (n : Size) (mode : Mode) (s 
       pub find-kept : mode ≡ Mode.None → Gives (record { land = h; answer = 0; range = s .here; old = s .here }) ws
       find-kept m =
           let d = is-find h ws w (n .0) mode
-          ∙ call-accepted (find w (n .0) mode) h ws (k .good) (k .whole) q q met (kept-step h w (n .0) mode met q m g (choice .is)) in
+          ∙ call-accepted layout (find w (n .0) mode) h ws (walkOf h ws .met) (held h ws (k .good) (k .whole)) q q met (find-none (arenaOf h) w (n .0) mode met q g (choice .is) m refl) in
           let b = handle-back h ws met fit refl in
           let e = choice .at .here in
           (rw d (λ i. record { land = sym b i; answer = 0; range = e i; old = e i }), rw d (sym (lay-laid (base h) met ws (fit .laid))))
 
       module _ (o : OneOf (1 ∷ 2 ∷ 3 ∷ []) (tagOf mode-type.the-type mode)) (a : Arena) (ea : a ≡ arenaIn h) (m : Size) (em : m .0 ≡ findSize (a .align .0) (n .0))
-          (y : units.Range) (ey : y ≡ partOf w mode (m .0) (s .here)) where
+          (y : units.Range) (ey : y ≡ struct (part w mode (m .0) (plain (s .here)))) where
         abbrev f : Range
         f = part w mode want q
 
         is-part : y ≡ struct f
         is-part =
             let e : m .0 ≡ want = em ∙ ap (λ (x : Arena). findSize (x .align .0) (n .0)) ea in
-            ey ∙ ap₂ (λ (x : ℕ) (v : units.Range). partOf w mode x v) e (choice .at .here) ∙ part-struct w mode want q
+            ey ∙ ap₂ (λ (x : ℕ) (v : units.Range). struct (part w mode x (plain v))) e (choice .at .here)
 
         takes : Takes (align h) met q f
         takes =
@@ -183,7 +150,7 @@ module _ (h : ListLand) (ws : List ℕ) (w : Which) (n : Size) (mode : Mode) (s 
         find-0 z ws' p =
             let new = delete-from (f .base) (f .limit) met in
             let d = is-find h ws w (n .0) mode
-            ∙ call-accepted (find w (n .0) mode) h ws (k .good) (k .whole) f q new (rw (g, choice .is, taken-out (arenaOf h) mode met f o)) in
+            ∙ call-accepted layout (find w (n .0) mode) h ws (walkOf h ws .met) (held h ws (k .good) (k .whole)) f q new (find-takes (arenaOf h) w (n .0) mode met q g (choice .is) o refl) in
             let e1 : z ≡ closed h new = p .0 ∙ ap (cutLand h s) is-part ∙ cut-part .land in
             let e2 = is-part in
             let e3 = choice .at .here in (

@@ -7,23 +7,26 @@ use native.Mathlib.Omega.{arith}
 use lib.ListN.{length, length-append}
 use borrow.Author.Tests.{lt-ltb, le-ltb}
 use Rattle.units.specs.declared.Range as units
+use Rattle.units.specs.Words.{addr}
 use Rattle.units.proofs.Alignments.{multiple-8}
-use Rattle.model.specs.Marks.{Range}
+use Rattle.model.specs.Marks.{Range, struct, plain}
 use Rattle.model.specs.Lists.{total, overlaps, holder, insert-in}
 use Rattle.model.specs.Answers.{RangeRules}
 use Rattle.model.proofs.Inserting.{insert-apart, insert-aligned}
-use Rattle.model.proofs.Places.{total-append, insert-front, overlaps-front, holder-front, holder-here}
-use Rattle.list_words.specs.Words.{addr, struct}
+use Rattle.model.proofs.Places.{insert-front, overlaps-front, holder-front, holder-here}
+use Rattle.model.proofs.Totals.{total-insert}
 use Rattle.list_words.specs.Laying.{head-of, lay}
-use Rattle.list_words.specs.Edits.{plain, storeHead}
+use Rattle.list_edits.specs.Edits.{storeHead}
 use Rattle.list_words.specs.declared.Spot.{Spot}
 use Rattle.list_words.proofs.Laid.{Laid}
-use Rattle.list_words.proofs.Editing.{edited, Stored, stored}
+use Rattle.list_edits.proofs.Editing.{edited, Stored, stored}
 use Rattle.list_land.specs.Layout.{base, limit, align, arenaOf, walkOf, closed}
-use Rattle.list_land.specs.Joins.{placeOf, putEdit, Putting, putChanged, putWords}
+use Rattle.list_edits.specs.Places.{placeOf}
+use Rattle.list_land.specs.Parts.{arenaIn}
+use Rattle.list_land.specs.Joins.{putEdit, Putting, putChanged, putWords}
 use Rattle.list_land.specs.declared.ListLand.{ListLand}
-use Rattle.list_land.specs.declared.insert.Join.{Join}
-use Rattle.list_land.specs.declared.insert.Place.{Place}
+use Rattle.list_edits.specs.declared.Join.{Join}
+use Rattle.list_edits.specs.declared.Place.{Place}
 use Rattle.list_land.proofs.Cutting.{small}
 use Rattle.list_land.proofs.Joining.{Joined, joins-free, joins-overlap}
 use Rattle.list_land.proofs.Sound.{Fine}
@@ -41,14 +44,14 @@ module _ (h : ListLand) (ws : List ℕ) (f : Fine h ws) (y : units.Range) (s : S
   met = walkOf h ws .met
 
   -- the request overlaps a range of the list
-  pub insert-overlap : placeOf h ws y s ≡ Place.Overlap → overlaps b l met ≡ true
+  pub insert-overlap : placeOf (arenaIn h) ws y s ≡ Place.Overlap → overlaps b l met ≡ true
   insert-overlap e =
       rw (t .split) (overlaps-front b l (rules .order) (t .front) (t .old) (t .below)
       ∙ t .meets
       ∙ joins-overlap (base h) (t .x) b l ws (s .prev) (t .joins) (t .start) (rules .order) (t .lo) (limit h) (t .ups) (t .above) (t .apart) (t .laid) (t .at-ups) (t .over)
       (sym (t .place) ∙ e))
 
-  module _ (j : Join) (e : placeOf h ws y s ≡ Place.Free j) where
+  module _ (j : Join) (e : placeOf (arenaIn h) ws y s ≡ Place.Free j) where
     joined : Joined (base h) (t .x) b l ws (s .prev) (t .joins) (t .ups) j
     joined =
         joins-free (base h) (t .x) b l ws (s .prev) (t .joins) (t .start) (rules .order) (t .lo) (limit h) (t .ups) (t .above) (t .apart) (t .laid) (t .at-ups) j
@@ -96,12 +99,7 @@ module _ (h : ListLand) (ws : List ℕ) (f : Fine h ws) (y : units.Range) (s : S
         (rw (insert-new, length-append) (omega arith), omega arith)
 
     insert-bytes : h .bytes .0 + (l - b) ≡ total (insert-in b l met)
-    insert-bytes =
-        let n : h .bytes .0 ≡ total (t .front ++ t .old) = f .bytes ∙ ap total (t .split) in
-        let m = total-append (t .front) (t .old) in
-        let u = t .bytes in
-        let v = joined .bytes in
-        rw (insert-new, total-append) (omega arith)
+    insert-bytes = let n = f .bytes in let t' = total-insert b l (base h) (limit h) met (rules .order) (f .apart) in omega arith
 
     -- the range that then contains the request
     insert-holder : holder b l (insert-in b l met) ≡ plain (j .fresh)

@@ -7,21 +7,19 @@ use native.Mathlib.Omega.{arith}
 use lib.Dec.{eqb, ltb}
 use lib.ListN.{length}
 use borrow.Author.Tests.{ne-eqb, lt-ltb, eqb-true}
-use Rattle.units.specs.Words.{rangeOf}
+use Rattle.units.specs.Words.{rangeOf, addr}
 use Rattle.units.specs.declared.Range as units
+use Rattle.units.specs.Aims.{isNone, none-range}
 use Rattle.units.proofs.Tests.{by, tests}
-use Rattle.model.specs.Marks.{Range, size}
+use Rattle.model.specs.Marks.{Range, size, struct, plain}
 use Rattle.model.specs.Lists.{Apart, total, overlaps, insert-in}
 use Rattle.model.proofs.Places.{overlaps-above, insert-apart-of, insert-join}
-use Rattle.list_words.specs.Words.{addr, struct}
 use Rattle.list_words.specs.Laying.{head-of}
-use Rattle.list_words.specs.Surveys.{isNone, none-range}
-use Rattle.list_words.specs.Edits.{plain}
 use Rattle.list_words.specs.declared.Spot.{Spot}
 use Rattle.list_words.proofs.Laid.{Laid}
-use Rattle.list_land.specs.Joins.{joinOf, free}
-use Rattle.list_land.specs.declared.insert.Join.{Join}
-use Rattle.list_land.specs.declared.insert.Place.{Place}
+use Rattle.list_edits.specs.Places.{joinOf, free}
+use Rattle.list_edits.specs.declared.Join.{Join}
+use Rattle.list_edits.specs.declared.Place.{Place}
 
 -- a spot at the first of some ranges, or behind the last
 abbrev pub Above : List Range → Spot → Type 0

@@ -1,17 +1,18 @@
 -- The list land's layout keeps the laws of a layout. Assumes nothing.
 use Prim.Native.Nat.{ℕ}
-use mathlib.Core.Bool.{true}
+use mathlib.Core.Bool.{true, false}
 use mathlib.Core.List.{List}
 use mathlib.Core.Path.{_≡_, refl, sym, ap, subst, _∙_}
 use native.Mathlib.Omega.{arith}
 use lib.ListN.{length}
 use borrow.Author.Tests.{eq-eqb}
 use Rattle.units.proofs.Tests.{by}
+use Rattle.units.specs.Words.{addr}
 use Rattle.model.specs.Marks.{Range}
 use Rattle.model.specs.Lists.{Apart, Aligned, total}
 use Rattle.model.specs.Layouts.{fault, holding}
 use Rattle.model.specs.Lands.{LandLaws}
-use Rattle.list_words.specs.Words.{addr, soundWalk, walkFrom}
+use Rattle.list_words.specs.Words.{soundWalk, walkFrom}
 use Rattle.list_words.specs.Laying.{head-of, lay}
 use Rattle.list_words.proofs.Laid.{Laid, length-lay, laid-lay, laid-host}
 use Rattle.list_words.proofs.Meeting.{walk-laid, aligned-8, few-words}
@@ -33,6 +34,20 @@ reads h ws rs e =
     (λ s. record { good = g; whole = s; same = let q : holding (walkOf h ws .met) ≡ holding rs = rw (g, s) at e in cc })
     (λ s. let q : fault 6 ≡ holding rs = rw (g, s) at e in let z : _≡_ {A = ℕ} 0 1 = cc in absurd (omega arith)))
     (λ g. let q : fault 5 ≡ holding rs = rw g at e in let z : _≡_ {A = ℕ} 0 1 = cc in absurd (omega arith))
+
+-- and the other way round: 5, 6, or the ranges met
+module _ (h : ListLand) (ws : List ℕ) where
+  pub reads-5 : setUp h ws ≡ false → readOf h ws ≡ fault 5
+  unfolding readOf
+  reads-5 g = rw g
+
+  pub reads-6 : setUp h ws ≡ true → sound h ws ≡ false → readOf h ws ≡ fault 6
+  unfolding readOf
+  reads-6 g s = rw (g, s)
+
+  pub held : setUp h ws ≡ true → sound h ws ≡ true → readOf h ws ≡ holding (walkOf h ws .met)
+  unfolding readOf
+  held g s = rw (g, s)
 
 -- descriptors in place are read
 pub read-laid : (h : ListLand) (ws : List ℕ) (rs : List Range) → Placed h (length ws) → setUp h ws ≡ true → Laid (base h) rs ws →

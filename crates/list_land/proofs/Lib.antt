@@ -1,6 +1,5 @@
 pub mod Sound
 pub mod LayoutLaws
-pub mod Outcomes
 pub mod Cutting
 pub mod Joining
 pub mod Standing

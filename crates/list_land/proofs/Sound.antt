@@ -2,32 +2,25 @@
 use Prim.Native.Nat.{ℕ, _-_, _/_, _%_, _<_}
 use mathlib.Core.Bool.{true}
 use mathlib.Core.List.{List}
-use mathlib.Core.Path.{_≡_, refl}
+use mathlib.Core.Path.{_≡_}
 use lib.Dec.{eqb}
 use lib.ListN.{length}
 use borrow.Author.Tests.{eqb-true}
 use Rattle.units.specs.Rules.{arenaCheck, goodArena}
 use Rattle.units.specs.Words.{wordNumber}
-use Rattle.units.specs.declared.rules.ArenaCheck.{ArenaCheck}
 use Rattle.units.proofs.Alignments.{multiple-8, align-positive}
+use Rattle.units.proofs.Cases.{good-case}
 use Rattle.units.proofs.Facts.{GoodArena, arena-facts}
-use Rattle.units.proofs.Tests.{and-left, and-right, clash}
+use Rattle.units.proofs.Tests.{and-left, and-right}
 use Rattle.model.specs.Lists.{Apart, Aligned, total}
-use Rattle.list_words.specs.Words.{Ending, clean, bad-base, bad-descriptor, isClean, walkFrom, soundWalk}
+use Rattle.list_words.specs.Words.{isClean, walkFrom, soundWalk}
 use Rattle.list_words.specs.Laying.{head-of}
 use Rattle.list_words.specs.Surveys.{Ready}
 use Rattle.list_words.proofs.Laid.{Laid}
-use Rattle.list_words.proofs.Meeting.{walk-mets, aligned-8}
+use Rattle.list_words.proofs.Meeting.{clean-case, walk-mets, aligned-8}
 use Rattle.list_land.specs.Layout.{base, limit, align, setUp, walkOf, sound}
 use Rattle.list_land.specs.Parts.{arenaIn}
 use Rattle.list_land.specs.declared.ListLand.{ListLand}
-
--- the case of a check that is good
-pub good-case : (x : ArenaCheck) → goodArena x ≡ true → x ≡ ArenaCheck.Good
-good-case ArenaCheck.Good e = refl
-good-case ArenaCheck.Align e = clash e refl
-good-case ArenaCheck.Base e = clash e refl
-good-case ArenaCheck.Limit e = clash e refl
 
 -- what a good set-up says of the numbers
 pub record Placed (h : ListLand) (n : ℕ) : Type 0 where
@@ -43,11 +36,6 @@ placed h ws e =
     let w = eqb-true (wordNumber (base h) (limit h)) (length ws) (and-right (goodArena (arenaCheck (base h) (limit h) (align h))) _ e) in
     let f = arena-facts (base h) (limit h) (align h) c in
     record { ready = record { arena = c; words = w }; arena = f; words = w; positive = align-positive (align h) (f .align) }
-
-clean-case : (x : Ending) → isClean x ≡ true → x ≡ clean
-clean-case clean e = refl
-clean-case (bad-base n) e = clash e refl
-clean-case (bad-descriptor n) e = clash e refl
 
 -- a land whose list is sound
 pub record Fine (h : ListLand) (ws : List ℕ) : Type 0 where

@@ -8,22 +8,21 @@ use native.Mathlib.Omega.{arith}
 use lib.Dec.{eqb}
 use lib.ListN.{length}
 use borrow.Author.Tests.{ne-eqb, le-ltb, eqb-true}
-use Rattle.units.specs.Words.{rangeOf}
+use Rattle.units.specs.Words.{rangeOf, addr}
 use Rattle.units.specs.declared.Range as units
 use Rattle.units.proofs.Tests.{by, tests}
 use Rattle.model.specs.Marks.{Range}
 use Rattle.model.specs.Lists.{Apart, Aligned, total, overlaps, insert-in}
 use Rattle.model.proofs.Places.{Before, apart-rest, aligned-rest, insert-below}
-use Rattle.list_words.specs.Words.{addr}
+use Rattle.model.proofs.Reaching.{reach, reach-none, reach-some}
+use Rattle.list_edits.specs.Places.{followingOf, joinOf, placeOf}
 use Rattle.list_words.specs.Laying.{head-of}
 use Rattle.list_words.specs.declared.Spot.{Spot}
-use Rattle.list_words.proofs.Aiming.{reach, kept-reach, reach-none, reach-some}
-use Rattle.list_words.proofs.Keeping.{Last, At, Behind, Placed}
+use Rattle.list_words.proofs.Keeping.{Last, At, Behind, Placed, kept-reach}
 use Rattle.list_words.proofs.Laid.{Laid, laid-rest, even-head}
 use Rattle.list_words.proofs.Meeting.{told-step}
 use Rattle.list_land.specs.Layout.{base, limit, align, walkOf}
-use Rattle.list_land.specs.Parts.{Sought, reachBase}
-use Rattle.list_land.specs.Joins.{followingOf, joinOf, placeOf}
+use Rattle.list_land.specs.Parts.{arenaIn, Sought, reachBase}
 use Rattle.list_land.specs.declared.ListLand.{ListLand}
 use Rattle.list_land.proofs.Joining.{Above, Over}
 use Rattle.list_land.proofs.Sound.{Fine}
@@ -50,7 +49,7 @@ pub record Stand (h : ListLand) (ws : List ℕ) (y : units.Range) (s : Spot) : T
   pub laid : Laid (base h) ups ws
   pub at-ups : Above ups above
   pub over : Over (y .base .0) ups
-  pub place : placeOf h ws y s ≡ joinOf (s .prev) (rangeOf x (y .limit .0)) joins above
+  pub place : placeOf (arenaIn h) ws y s ≡ joinOf (s .prev) (rangeOf x (y .limit .0)) joins above
 
 module _ (h : ListLand) (ws : List ℕ) (f : Fine h ws) (y : units.Range) (s : Spot) (from : base h ≤ y .base .0) (proper : y .base .0 < y .limit .0) where
   abbrev b : ℕ
@@ -130,7 +129,7 @@ module _ (h : ListLand) (ws : List ℕ) (f : Fine h ws) (y : units.Range) (s : S
         }
 
     -- the spot after q
-    follows : (rest : List Range) → p .rest ≡ rest → Above rest (followingOf h ws s)
+    follows : (rest : List Range) → p .rest ≡ rest → Above rest (followingOf (arenaIn h) ws s)
     unfolding followingOf
     follows [] e = rw (p .next, e) (refl, refl)
     follows (r ∷ rs) e =
@@ -159,7 +158,7 @@ module _ (h : ListLand) (ws : List ℕ) (f : Fine h ws) (y : units.Range) (s : S
           ups = p .rest;
           x = q .base;
           joins = 1;
-          above = followingOf h ws s;
+          above = followingOf (arenaIn h) ws s;
           split = p .split;
           last = p .last;
           below = k;
@@ -174,7 +173,7 @@ module _ (h : ListLand) (ws : List ℕ) (f : Fine h ws) (y : units.Range) (s : S
           laid = laid-here .1;
           at-ups = follows (p .rest) refl;
           over = over-of (p .rest) (pr .3) e;
-          place = rw z (ap (λ (v : units.Range). joinOf (s .prev) (rangeOf (v .base .0) l) 1 (followingOf h ws s)) (p .here));
+          place = rw z (ap (λ (v : units.Range). joinOf (s .prev) (rangeOf (v .base .0) l) 1 (followingOf (arenaIn h) ws s)) (p .here));
         }
       where
         over-of : (rs : List Range) → Apart (suc (q .limit)) (limit h) rs → q .limit ≡ b → Over b rs

@@ -8,23 +8,22 @@ use native.Mathlib.Omega.{arith}
 use lib.Dec.{eqb}
 use borrow.Author.Tests.{ne-eqb}
 use Rattle.units.specs.declared.Addr.{Addr}
+use Rattle.units.specs.declared.aims.Aim.{Aim}
 use Rattle.units.proofs.Tests.{clash}
 use Rattle.model.specs.Calls.{walk}
 use Rattle.model.specs.Marks.{Range, rng}
 use Rattle.model.specs.Steps.{next-from}
-use Rattle.list_words.specs.declared.Aim.{Aim}
+use Rattle.model.proofs.Outcomes.{call-refused, call-accepted}
 use Rattle.list_words.specs.declared.Spot.{Spot}
-use Rattle.list_words.proofs.Aiming.{kept-from}
-use Rattle.list_words.proofs.Keeping.{Placed}
+use Rattle.list_words.proofs.Keeping.{Placed, kept-from}
 use Rattle.list_land.specs.Calls.{walked, changed, refusedBy}
-use Rattle.list_land.specs.Layout.{base, limit, walkOf}
+use Rattle.list_land.specs.Layout.{base, limit, walkOf, layout}
 use Rattle.list_land.specs.Parts.{lookOf, Sought}
 use Rattle.list_land.specs.declared.Changed.{Changed}
 use Rattle.list_land.specs.declared.ListLand.{ListLand}
 use Rattle.list_land.specs.declared.Look.{Look}
 use Rattle.list_land.proofs.Answers.{is-walk, refuse-change, answers-5, answers-6, saw-sound}
-use Rattle.list_land.proofs.LayoutLaws.{handle-back}
-use Rattle.list_land.proofs.Outcomes.{call-refused, call-accepted}
+use Rattle.list_land.proofs.LayoutLaws.{held, handle-back}
 use Rattle.list_land.proofs.Requests.{sought-fine}
 use Rattle.list_land.proofs.Sound.{Fine}
 
@@ -54,7 +53,7 @@ module _ (h : ListLand) (ws : List ℕ) (x : Addr) (v : Look) (e : v ≡ lookOf 
       go : (o : Option Range) → next-from (x .0) met ≡ o → Placed met o s → w ≡ changed (walked h ws (x .0))
       go none g p =
           refuse-change h ws (walked h ws (x .0)) 2
-          (is-walk h ws (x .0) ∙ call-refused (walk (x .0)) h ws (found .good) (found .whole) 2 refl (rw g)) w k .0
+          (is-walk h ws (x .0) ∙ call-refused layout (walk (x .0)) h ws (walkOf h ws .met) (held h ws (found .good) (found .whole)) 2 refl (rw g)) w k .0
       go (some q) g p = clash (sym er ∙ t) (rw (p .here) (ne-eqb (q .base) 0 (λ z. omega (arith, p .above))))
 
   pub walk-0 : r ≡ false → record { land = h; answer = 0; range = s .here } ≡ changed (walked h ws (x .0))
@@ -63,7 +62,7 @@ module _ (h : ListLand) (ws : List ℕ) (x : Addr) (v : Look) (e : v ≡ lookOf 
       go : (o : Option Range) → next-from (x .0) met ≡ o → Placed met o s → record { land = h; answer = 0; range = s .here } ≡ changed (walked h ws (x .0))
       go none g p = clash {t = eqb (s .here .base .0) 0} (rw (p .here)) (sym er ∙ t)
       go (some q) g p =
-          let d = is-walk h ws (x .0) ∙ call-accepted (walk (x .0)) h ws (found .good) (found .whole) q (rng 0 0) met (rw g) in
+          let d = is-walk h ws (x .0) ∙ call-accepted layout (walk (x .0)) h ws (walkOf h ws .met) (held h ws (found .good) (found .whole)) q (rng 0 0) met (rw g) in
           let b = handle-back h ws met fit refl in
           let u = p .here in
           rw d (λ i. record { land = sym b i; answer = 0; range = u i })

@@ -1,42 +1,36 @@
 -- The ways out of the inner functions of the list land. Assumes nothing.
-use Prim.Native.Nat.{ℕ, _+_, _-_, _≤_}
-use mathlib.Core.Bool.{Bool, true, false, cond}
+use Prim.Native.Nat.{ℕ, _≤_}
+use mathlib.Core.Bool.{true, false, cond}
 use mathlib.Core.List.{List, [], _∷_}
-use mathlib.Core.Logic.{⊎-elim}
-use mathlib.Core.Path.{_≡_, refl, sym, ap, ap₂, _∙_}
+use mathlib.Core.Path.{_≡_, sym, ap, ap₂, _∙_}
 use native.Mathlib.Omega.{arith}
-use lib.Dec.{ltb}
 use lib.ListN.{length}
 use types.Run.{OneOf}
 use denote.Enum.Declared.{tagOf}
 use borrow.Author.Tests.{eq-eqb, ne-eqb}
-use Rattle.units.specs.Rules.{goodAlign, arenaCheck, goodArena}
-use Rattle.units.specs.Words.{wordNumber, rangeOf}
+use Rattle.units.specs.Rules.{goodAlign, arenaCheck, goodArena, setUpOf}
+use Rattle.units.specs.Words.{wordNumber, rangeOf, addr}
 use Rattle.units.specs.declared.Addr.{Addr}
 use Rattle.units.specs.declared.Align.{Align}
-use Rattle.units.specs.declared.Mode.{Mode}
 use Rattle.units.specs.declared.Range.{Range}
 use Rattle.units.specs.declared.Size.{Size}
-use Rattle.units.specs.declared.Which.{Which}
 use Rattle.units.specs.declared.rules.Arena.{Arena}
 use Rattle.units.specs.declared.rules.ArenaCheck.{ArenaCheck}
+use Rattle.units.specs.declared.rules.SetUp.{SetUp}
+use Rattle.units.specs.declared.aims.Aim.{Aim}
+use Rattle.units.proofs.Cases.{bad-arena, set-up-true, set-up-false}
 use Rattle.units.proofs.Facts.{arena-facts}
 use Rattle.units.proofs.Tests.{by}
 use Rattle.units.proofs.rules.ArenaCheck as arena-type
 use Rattle.list_words.specs.Surveys.{Ready, kept-of, surveyOf}
-use Rattle.list_words.specs.Words.{addr}
-use Rattle.list_words.specs.declared.Aim.{Aim}
 use Rattle.list_words.specs.declared.Chain.{Chain}
 use Rattle.list_words.specs.declared.Spot.{Spot}
 use Rattle.list_words.specs.declared.Verdict.{Verdict}
 use Rattle.list_land.specs.Calls.{refusedBy, foundNone, newLand, openedOf}
-use Rattle.list_land.specs.Cuts.{one}
 use Rattle.list_land.specs.Layout.{base, limit, align, setUp, walkOf, sound}
-use Rattle.list_land.specs.Parts.{arenaIn, chainOf, setUpOf, lookOf}
-use Rattle.list_land.specs.Shares.{shareOf, partOf}
+use Rattle.list_land.specs.Parts.{arenaIn, chainOf, lookOf}
 use Rattle.list_land.specs.declared.ListLand.{ListLand}
 use Rattle.list_land.specs.declared.Look.{Look}
-use Rattle.list_land.specs.declared.SetUp.{SetUp}
 use Rattle.list_land.proofs.Sound.{placed}
 
 pub refused-made : (h : ListLand) (n : ℕ) (r : Range) → r ≡ rangeOf 0 0 → record { land = h; answer = n; range = r } ≡ refusedBy h n
@@ -45,51 +39,7 @@ refused-made h n r e = rw e
 pub none-made : (h : ListLand) (n : ℕ) (r o : Range) → r ≡ rangeOf 0 0 → o ≡ rangeOf 0 0 → record { land = h; answer = n; range = r; old = o } ≡ foundNone h n
 none-made h n r o e f = rw (e, f)
 
--- a piece more, or none
-module _ (a b : ℕ) (r : Bool) (e : r ≡ ltb a b) where
-  pub pieces-one : r ≡ true → 1 ≡ one (ltb a b)
-  pieces-one t = rw (sym e ∙ t)
-
-  pub pieces-none : r ≡ false → 0 ≡ one (ltb a b)
-  pieces-none t = rw (sym e ∙ t)
-
-pub ruleset piece-ways = (pieces-one, pieces-none)
-
--- the part of a range
-module _ (mode : Mode) (n : Size) (here : Range) (w : Range) (e : Addr) where
-  pub share-low : mode ≡ Mode.Low → e .0 ≡ here .base .0 + n .0 → w ≡ rangeOf (here .base .0) (e .0) → w ≡ shareOf mode (n .0) here
-  share-low m f g = rw m (g ∙ ap (rangeOf (here .base .0)) f)
-
-  pub share-high : mode ≡ Mode.High → e .0 ≡ here .limit .0 - n .0 → w ≡ rangeOf (e .0) (here .limit .0) → w ≡ shareOf mode (n .0) here
-  share-high m f g = rw m (g ∙ ap (λ (x : ℕ). rangeOf x (here .limit .0)) f)
-
-pub share-none : (mode : Mode) (n : Size) (here : Range) → mode ≡ Mode.None → here ≡ shareOf mode (n .0) here
-share-none mode n here m = rw m
-
-pub share-entire : (mode : Mode) (n : Size) (here : Range) → mode ≡ Mode.Entire → here ≡ shareOf mode (n .0) here
-share-entire mode n here m = rw m
-
-pub ruleset share-ways = (share-none, share-low, share-high, share-entire)
-
-module _ (w : Which) (mode : Mode) (n : Size) (here : Range) where
-  pub part-first : (r : Range) → w ≡ Which.First → r ≡ shareOf mode (n .0) here → r ≡ partOf w mode (n .0) here
-  part-first r e f = rw e f
-
-  pub part-last : (r : Range) → w ≡ Which.Last → r ≡ shareOf mode (n .0) here → r ≡ partOf w mode (n .0) here
-  part-last r e f = rw e f
-
-  pub part-largest : w ≡ Which.Largest → here ≡ partOf w mode (n .0) here
-  part-largest e = rw e
-
-pub ruleset part-ways = (part-first, part-last, part-largest)
-
 -- THE SET-UP
-bad-arena : (x : ArenaCheck) → OneOf (1 ∷ 2 ∷ 3 ∷ []) (tagOf arena-type.the-type x) → goodArena x ≡ false
-bad-arena ArenaCheck.Good t = absurd (⊎-elim (λ x. omega arith) (⊎-elim (λ x. omega arith) (λ x. omega arith)) t)
-bad-arena ArenaCheck.Align t = refl
-bad-arena ArenaCheck.Base t = refl
-bad-arena ArenaCheck.Limit t = refl
-
 module _ (h : ListLand) (ws : List ℕ) (a : Arena) (ea : a ≡ arenaIn h) (x : ArenaCheck) (e : x ≡ arenaCheck (a .base .0) (a .limit .0) (a .align .0)) where
   here : x ≡ arenaCheck (base h) (limit h) (align h)
   here = e ∙ ap (λ (v : Arena). arenaCheck (v .base .0) (v .limit .0) (v .align .0)) ea
@@ -115,28 +65,21 @@ module _ (h : ListLand) (ws : List ℕ) (a : Arena) (ea : a ≡ arenaIn h) (x : 
 
 pub ruleset set-up-ways = (set-up-bad, set-up-order, set-up-good, set-up-short)
 
--- what an answered set-up says
-pub set-up-true : (h : ListLand) (ws : List ℕ) (r : SetUp) → r ≡ setUpOf (setUp h ws) → r ≡ SetUp.Good → setUp h ws ≡ true
-set-up-true h ws r e f = by (setUp h ws) (λ t. t) (λ t. let q : r ≡ SetUp.Bad = rw t at e in let z : _≡_ {A = ℕ} 0 1 = cc in absurd (omega arith))
-
-pub set-up-false : (h : ListLand) (ws : List ℕ) (r : SetUp) → r ≡ setUpOf (setUp h ws) → r ≡ SetUp.Bad → setUp h ws ≡ false
-set-up-false h ws r e f = by (setUp h ws) (λ t. let q : r ≡ SetUp.Good = rw t at e in let z : _≡_ {A = ℕ} 0 1 = cc in absurd (omega arith)) (λ t. t)
-
 -- THE LOOK
-pub walk-arena-made : (h : ListLand) (a : Align) → a .0 ≡ h .align .0 → record { base = h .base; limit = h .limit; align = a } ≡ arenaIn h
-walk-arena-made h a e = λ i. record { base = h .base; limit = h .limit; align = record { 0 = e i } }
-
 module _ (h : ListLand) (ws : List ℕ) (aim : Aim) (r : SetUp) (e : r ≡ setUpOf (setUp h ws)) where
   pub look-bad : r ≡ SetUp.Bad → Look.BadSetUp ≡ lookOf h ws aim
   unfolding lookOf
-  look-bad f = rw (set-up-false h ws r e f)
+  look-bad f = rw (set-up-false (setUp h ws) r e f)
 
-  pub look-align : r ≡ SetUp.Good → goodAlign (h .align .0) ≡ true
-  look-align f = placed h ws (set-up-true h ws r e f) .arena .align
+  pub look-align : r ≡ SetUp.Good → (v : Arena) → v ≡ arenaIn h → goodAlign (v .align .0) ≡ true
+  look-align f v ev = rw ev (placed h ws (set-up-true (setUp h ws) r e f) .arena .align)
 
-  module _ (f : r ≡ SetUp.Good) (a : Arena) (ea : a ≡ arenaIn h) where
+  module _ (f : r ≡ SetUp.Good) (v0 : Arena) (ev0 : v0 ≡ arenaIn h) (a : Arena) (ea0 : a ≡ v0) where
+    ea : a ≡ arenaIn h
+    ea = ea0 ∙ ev0
+
     pub look-ready : Ready a (length ws)
-    look-ready = rw ea (placed h ws (set-up-true h ws r e f) .ready)
+    look-ready = rw ea (placed h ws (set-up-true (setUp h ws) r e f) .ready)
 
     module _ (c : Chain) (ec : c ≡ chainOf h) (v : Verdict) (ev : v ≡ surveyOf a ws c aim) where
       seen : v ≡ cond (sound h ws) (Verdict.Sound (kept-of aim (walkOf h ws .met))) Verdict.Damaged
@@ -148,14 +91,14 @@ module _ (h : ListLand) (ws : List ℕ) (aim : Aim) (r : SetUp) (e : r ≡ setUp
       look-damaged g =
           by (sound h ws)
           (λ t. let q : v ≡ Verdict.Sound (kept-of aim (walkOf h ws .met)) = rw t at seen in let z : _≡_ {A = ℕ} 0 1 = cc in absurd (omega arith))
-          (λ t. rw (set-up-true h ws r e f, t))
+          (λ t. rw (set-up-true (setUp h ws) r e f, t))
 
       pub look-sound : (s : Spot) → v ≡ Verdict.Sound s → Look.Sound s ≡ lookOf h ws aim
       unfolding lookOf
       look-sound s g =
           by (sound h ws)
           (λ t. let q : v ≡ Verdict.Sound (kept-of aim (walkOf h ws .met)) = rw t at seen in
-          let w : s ≡ kept-of aim (walkOf h ws .met) = cc in rw (set-up-true h ws r e f, t) (ap (λ (x : Spot). Look.Sound x) w))
+          let w : s ≡ kept-of aim (walkOf h ws .met) = cc in rw (set-up-true (setUp h ws) r e f, t) (ap (λ (x : Spot). Look.Sound x) w))
           (λ t. let q : v ≡ Verdict.Damaged = rw t at seen in let z : _≡_ {A = ℕ} 0 1 = cc in absurd (omega arith))
 
 pub ruleset look-ways = (look-bad, look-align, look-ready, look-damaged, look-sound)
@@ -165,13 +108,13 @@ module _ (b l a : ℕ) (ws : List ℕ) (h : ListLand) (eh : h ≡ newLand b l a)
   pub open-good : r ≡ SetUp.Good → record { land = h; answer = 0 } ≡ openedOf b l a ws
   unfolding openedOf
   open-good f =
-      let t : setUp (newLand b l a) ws ≡ true = rw eh at (set-up-true h ws r e f) in
+      let t : setUp (newLand b l a) ws ≡ true = rw eh at (set-up-true (setUp h ws) r e f) in
       rw t (ap (λ (x : ListLand). record { land = x; answer = 0 }) eh)
 
   pub open-bad : r ≡ SetUp.Bad → (z : ListLand) → z ≡ newLand 0 0 0 → record { land = z; answer = 5 } ≡ openedOf b l a ws
   unfolding openedOf
   open-bad f z ez =
-      let t : setUp (newLand b l a) ws ≡ false = rw eh at (set-up-false h ws r e f) in
+      let t : setUp (newLand b l a) ws ≡ false = rw eh at (set-up-false (setUp h ws) r e f) in
       rw t (ap (λ (x : ListLand). record { land = x; answer = 5 }) ez)
 
 -- a handle made of its parts

@@ -2,14 +2,14 @@
 use Prim.Native.Nat.{ℕ}
 use mathlib.Core.Bool.{cond}
 use mathlib.Core.List.{List}
-use Rattle.units.specs.Words.{rangeOf}
+use Rattle.units.specs.Words.{rangeOf, addr}
 use Rattle.units.specs.declared.Mode.{Mode}
 use Rattle.units.specs.declared.Range.{Range}
 use Rattle.units.specs.declared.Which.{Which}
 use Rattle.model.specs.Calls.{Outcome, insert, delete, find, walk}
 use Rattle.model.specs.Layouts.{Done}
 use Rattle.model.specs.Lands.{land-call}
-use Rattle.list_words.specs.Words.{addr, struct}
+use Rattle.model.specs.Marks.{struct}
 use Rattle.list_land.specs.Layout.{setUp, layout}
 use Rattle.list_land.specs.declared.ListLand.{ListLand}
 use Rattle.list_land.specs.declared.Opened.{Opened}

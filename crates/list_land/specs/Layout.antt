@@ -7,13 +7,13 @@ use mathlib.Core.Path.{_≡_}
 use lib.Dec.{eqb}
 use lib.ListN.{length, getD}
 use Rattle.units.specs.Rules.{arenaCheck, goodArena}
-use Rattle.units.specs.Words.{wordNumber}
+use Rattle.units.specs.Words.{wordNumber, addr}
 use Rattle.model.specs.Marks.{Range}
 use Rattle.model.specs.Lists.{total}
 use Rattle.model.specs.Calls.{Arena}
 use Rattle.model.specs.Layouts.{Reading, fault, holding, reading}
 use Rattle.model.specs.Lands.{LandLayout}
-use Rattle.list_words.specs.Words.{addr, Walk, walkFrom, soundWalk}
+use Rattle.list_words.specs.Words.{Walk, walkFrom, soundWalk}
 use Rattle.list_words.specs.Laying.{head-of, lay, described}
 use Rattle.list_land.specs.declared.ListLand.{ListLand}
 

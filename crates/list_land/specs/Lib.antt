@@ -3,5 +3,4 @@ pub mod Calls
 pub mod Parts
 pub mod Joins
 pub mod Cuts
-pub mod Shares
 pub mod Demand

@@ -1,6 +1,6 @@
 -- Contracts of the inner functions that every call uses. Assumes nothing.
 use Prim.Native.Nat.{ℕ}
-use mathlib.Core.Bool.{Bool, true, false, cond}
+use mathlib.Core.Bool.{true, cond}
 use mathlib.Core.List.{List}
 use mathlib.Core.Path.{_≡_}
 use Rattle.units.specs.Rules.{findSize}
@@ -9,13 +9,12 @@ use Rattle.units.specs.declared.Range.{Range}
 use Rattle.units.specs.declared.Size.{Size}
 use Rattle.units.specs.declared.Which.{Which}
 use Rattle.units.specs.declared.rules.Arena.{Arena}
-use Rattle.list_words.specs.declared.Aim.{Aim}
+use Rattle.units.specs.declared.aims.Aim.{Aim}
 use Rattle.list_words.specs.declared.Chain.{Chain}
 use Rattle.list_words.specs.declared.Spot.{Spot}
 use Rattle.list_words.specs.Surveys.{kept-of}
 use Rattle.list_land.specs.declared.ListLand.{ListLand}
 use Rattle.list_land.specs.declared.Look.{Look}
-use Rattle.list_land.specs.declared.SetUp.{SetUp}
 use Rattle.list_land.specs.Layout.{align, setUp, walkOf, sound}
 
 abbrev pub arenaIn : ListLand → Arena
@@ -23,10 +22,6 @@ arenaIn h = record { base = h .base; limit = h .limit; align = h .align }
 
 abbrev pub chainOf : ListLand → Chain
 chainOf h = record { head = h .head; ranges = h .ranges; bytes = h .bytes }
-
-abbrev pub setUpOf : Bool → SetUp
-setUpOf true = SetUp.Good
-setUpOf false = SetUp.Bad
 
 -- Document 01's number of each case: 5, 6, or 0.
 abbrev pub lookNumber : Look → ℕ

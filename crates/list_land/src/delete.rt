@@ -3,30 +3,16 @@ use crate::Changed;
 use crate::ListLand;
 use crate::Look;
 use crate::refused;
-use list_words::Aim;
-use list_words::Edit;
+use list_edits::Edit;
 use list_words::Spot;
-use units::Addr;
+use units::Aim;
 use units::Range;
 use units::RangeCheck;
 ghost use mathlib.Core.Path.{_≡_};
-ghost use Prim.Native.Nat.{_≤_};
-ghost use lib.Dec.{ltb};
 ghost use lib.ListN.{length};
 ghost use Rattle.list_land.specs.Calls.{changed, deleted};
 ghost use Rattle.list_land.specs.Parts.{Sought, reachLimit};
-ghost use Rattle.list_land.specs.Cuts.{one, Cutting, cutLand, cutWords};
-
-// One piece if the range from a to b is not empty.
-fn pieces(a: Addr, b: Addr) -> u64
-    ensures { λ r. ⌜ r ≡ one (ltb (a .0) (b .0)) ⌝ }
-    ensures { λ r. ⌜ r ≤ 1 ⌝ }
-{
-    if a.lt(b) {
-        return 1;
-    }
-    0
-}
+ghost use Rattle.list_land.specs.Cuts.{Cutting, cutLand, cutWords};
 
 impl ListLand {
     // Takes a part out of the range at a spot of a sound list, and hands back the next handle.
@@ -45,11 +31,9 @@ impl ListLand {
             high,
             next,
         };
-        let ranges = self.ranges - 1
-            + pieces(here.base, part.base)
-            + pieces(part.limit, here.limit);
+        let ranges = self.ranges - 1 + low.pieces() + high.pieces();
         let bytes = self.bytes.minus(part.size());
-        let head = list_words::store(words, self.base, self.head, edit);
+        let head = list_edits::store(words, self.base, self.head, edit);
         self.close(head, ranges, bytes)
     }
 

@@ -2,8 +2,8 @@
 use crate::Found;
 use crate::ListLand;
 use crate::Look;
-use list_words::Aim;
 use list_words::Spot;
+use units::Aim;
 use units::Mode;
 use units::Range;
 use units::Size;
@@ -12,7 +12,6 @@ use units::Which;
 ghost use mathlib.Core.Path.{_≡_};
 ghost use Rattle.list_land.specs.Calls.{foundNone, foundOf, found};
 ghost use Rattle.list_land.specs.Parts.{Sought, findAim};
-ghost use Rattle.list_land.specs.Shares.{Within, shareOf, partOf};
 
 fn none_found(land: ListLand, answer: u64) -> Found
     ensures { λ r. ⌜ r ≡ foundNone land answer ⌝ }
@@ -22,31 +21,6 @@ fn none_found(land: ListLand, answer: u64) -> Found
         answer,
         range: Range::none(),
         old: Range::none(),
-    }
-}
-
-// The part of a range that a mode finds.
-fn share(mode: Mode, size: Size, here: Range) -> Range
-    requires { ⌜ Within size here ⌝ }
-    ensures { λ r. ⌜ r ≡ shareOf mode (size .0) here ⌝ }
-{
-    match mode {
-        Mode::None => here,
-        Mode::Low => Range::new(here.base, here.base.plus(size)),
-        Mode::High => Range::new(here.limit.minus(size), here.limit),
-        Mode::Entire => here,
-    }
-}
-
-// In a find of the largest, low and high act as entire.
-fn part(which: Which, mode: Mode, size: Size, here: Range) -> Range
-    requires { ⌜ Within size here ⌝ }
-    ensures { λ r. ⌜ r ≡ partOf which mode (size .0) here ⌝ }
-{
-    match which {
-        Which::First => share(mode, size, here),
-        Which::Last => share(mode, size, here),
-        Which::Largest => here,
     }
 }
 
@@ -64,7 +38,7 @@ impl ListLand {
         if here.base.is_zero() {
             return none_found(self, 2);
         }
-        let taken = part(which, mode, arena.find_size(size), here);
+        let taken = finds::part(which, mode, arena.find_size(size), here);
         if let Mode::None = mode {
             return Found {
                 land: self,

@@ -1,118 +1,22 @@
-// Insert: the place of a range in a sound list, joined with the ranges that it touches.
+// Insert: the place of a range in a sound list, written.
 use crate::Changed;
 use crate::ListLand;
 use crate::Look;
 use crate::refused;
-use list_words::Aim;
-use list_words::Edit;
-use list_words::Met;
+use list_edits::Edit;
+use list_edits::Join;
+use list_edits::Place;
 use list_words::Spot;
-use units::Addr;
+use units::Aim;
 use units::Range;
 use units::RangeCheck;
 ghost use mathlib.Core.Path.{_≡_};
-ghost use Prim.Native.Nat.{_≤_};
 ghost use lib.ListN.{length};
 ghost use Rattle.list_land.specs.Calls.{changed, inserted};
 ghost use Rattle.list_land.specs.Parts.{Sought, reachBase};
-ghost use Rattle.list_land.specs.Joins.{Following, followingOf, joinOf, Placing, placeOf, Putting, putChanged, putWords};
-
-// A range that is to go in, joined with its neighbours, of which there are `joins`, behind `prev` and before the range at `next`.
-pub struct Join {
-    pub prev: Range,
-    pub fresh: Range,
-    pub next: Addr,
-    pub joins: u64,
-}
-
-// A range overlaps one of the list, or is free to go in.
-pub enum Place {
-    Overlap,
-    Free(Join),
-}
-
-// The place of a fresh range before the range above it, which may touch it.
-fn place_before(prev: Range, fresh: Range, joins: u64, above: Spot) -> Place
-    requires { ⌜ joins ≤ 1 ⌝ }
-    ensures { λ r. ⌜ r ≡ joinOf prev fresh joins above ⌝ }
-{
-    let up = above.here;
-    let next = above.next;
-    let base = up.base;
-    if base.is_zero() {
-        return Place::Free(Join {
-            prev,
-            fresh,
-            next,
-            joins,
-        });
-    }
-    if base.lt(fresh.limit) {
-        return Place::Overlap;
-    }
-    if base.same(fresh.limit) {
-        return Place::Free(Join {
-            prev,
-            fresh: Range::new(fresh.base, up.limit),
-            next,
-            joins: joins + 1,
-        });
-    }
-    Place::Free(Join {
-        prev,
-        fresh,
-        next: base,
-        joins,
-    })
-}
+ghost use Rattle.list_land.specs.Joins.{Putting, putChanged, putWords};
 
 impl ListLand {
-    // The spot after a spot of a sound list.
-    fn following(self, words: &[u64], spot: Spot) -> Spot
-        requires { ⌜ Following self (length (now words)) spot ⌝ }
-        ensures { λ r. ⌜ r ≡ followingOf self (now (words .entry)) spot ⌝ }
-    {
-        let prev = spot.here;
-        let at = spot.next;
-        let none = Range::none();
-        if at.is_zero() {
-            return Spot {
-                prev,
-                here: none,
-                next: at,
-            };
-        }
-        let Met::Found(end, next) = list_words::step(self.arena(), words, prev.limit.after(), at)
-        else {
-            let nowhere = Addr::new(0);
-            return Spot {
-                prev,
-                here: none,
-                next: nowhere,
-            };
-        };
-        Spot {
-            prev,
-            here: Range::new(at, end),
-            next,
-        }
-    }
-
-    // The place of a range at the first range of a sound list that reaches its base.
-    fn place(self, words: &[u64], range: Range, spot: Spot) -> Place
-        requires { ⌜ Placing self (length (now words)) range spot ⌝ }
-        ensures { λ r. ⌜ r ≡ placeOf self (now (words .entry)) range spot ⌝ }
-    {
-        let prev = spot.prev;
-        let here = spot.here;
-        if here.limit.same(range.base) {
-            let above = self.following(words, spot);
-            let fresh = Range::new(here.base, range.limit);
-            return place_before(prev, fresh, 1, above);
-        }
-        place_before(prev, range, 0, spot)
-    }
-
     // Writes a place, and hands back the next handle and the joined range.
     fn put(self, words: &mut [u64], range: Range, place: Join) -> Changed
         requires { ⌜ Putting self (length (now words)) range place ⌝ }
@@ -131,7 +35,7 @@ impl ListLand {
         };
         let bytes = self.bytes.plus(range.size());
         let ranges = self.ranges + 1 - place.joins;
-        let head = list_words::store(words, self.base, self.head, edit);
+        let head = list_edits::store(words, self.base, self.head, edit);
         Changed {
             land: self.close(head, ranges, bytes),
             answer: 0,
@@ -144,10 +48,11 @@ impl ListLand {
         requires { ⌜ Sought self (now words) (reachBase range) spot ⌝ }
         ensures { λ r. ⌜ (r ≡ changed (inserted self (now (words .entry)) range)) × (now (words .exit) ≡ inserted self (now (words .entry)) range .words) ⌝ }
     {
-        let RangeCheck::Good = self.arena().check_range(range) else {
+        let arena = self.arena();
+        let RangeCheck::Good = arena.check_range(range) else {
             return refused(self, 4);
         };
-        let Place::Free(p) = self.place(words, range, spot) else {
+        let Place::Free(p) = list_edits::placing::place(arena, words, range, spot) else {
             return refused(self, 1);
         };
         let place = p;

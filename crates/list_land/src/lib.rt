@@ -6,22 +6,22 @@ mod delete;
 mod find;
 mod insert;
 
-use list_words::Aim;
 use list_words::Chain;
 use list_words::Spot;
 use list_words::Verdict;
 use units::Addr;
+use units::Aim;
 use units::Align;
 use units::Arena;
 use units::ArenaCheck;
 use units::Range;
+use units::SetUp;
 use units::Size;
-ghost use mathlib.Core.Bool.{true};
 ghost use mathlib.Core.Path.{_≡_};
-ghost use Rattle.units.specs.Rules.{goodAlign};
+ghost use Rattle.units.specs.Rules.{setUpOf};
 ghost use Rattle.list_land.specs.Layout.{setUp};
 ghost use Rattle.list_land.specs.Calls.{refusedBy, changed, walked, openedOf};
-ghost use Rattle.list_land.specs.Parts.{arenaIn, chainOf, setUpOf, lookOf, closedWith};
+ghost use Rattle.list_land.specs.Parts.{arenaIn, chainOf, lookOf, closedWith};
 
 // The handle of a list land: its arena, the first range's base (or 0), the number of ranges and of free bytes.
 #[repr(C)]
@@ -58,12 +58,6 @@ pub struct Found {
     pub old: Range,
 }
 
-// Whether the fixed fields and the lent length keep the arena rules.
-pub enum SetUp {
-    Good,
-    Bad,
-}
-
 // What a call finds before it looks at its request: a bad set-up, a list that is not sound, or the range aimed at.
 pub enum Look {
     BadSetUp,
@@ -82,23 +76,13 @@ fn refused(land: ListLand, answer: u64) -> Changed
 }
 
 impl ListLand {
-    fn arena(self) -> Arena
+    // The arena of the handle.
+    pub fn arena(self) -> Arena
         ensures { λ r. ⌜ r ≡ arenaIn self ⌝ }
     {
         let base = self.base;
         let limit = self.limit;
         let align = self.align;
-        Arena { base, limit, align }
-    }
-
-    // The arena with its alignment as one of ten constants, for the loop of the walk.
-    fn walk_arena(self) -> Arena
-        requires { ⌜ goodAlign (self .align .0) ≡ true ⌝ }
-        ensures { λ r. ⌜ r ≡ arenaIn self ⌝ }
-    {
-        let base = self.base;
-        let limit = self.limit;
-        let align = self.align.divisor();
         Arena { base, limit, align }
     }
 
@@ -114,7 +98,8 @@ impl ListLand {
         }
     }
 
-    fn set_up(self, words: &[u64]) -> SetUp
+    // Whether the fixed fields keep the arena rules and the arena is lent whole.
+    pub fn set_up(self, words: &[u64]) -> SetUp
         ensures { λ r. ⌜ r ≡ setUpOf (setUp self (now (words .entry))) ⌝ }
     {
         let ArenaCheck::Good = self.arena().check() else {
@@ -128,20 +113,20 @@ impl ListLand {
     }
 
     // The one walk of a call.
-    fn look(self, words: &[u64], aim: Aim) -> Look
+    pub fn look(self, words: &[u64], aim: Aim) -> Look
         ensures { λ r. ⌜ r ≡ lookOf self (now (words .entry)) aim ⌝ }
     {
         let SetUp::Good = self.set_up(words) else {
             return Look::BadSetUp;
         };
-        match list_words::survey(self.walk_arena(), words, self.chain(), aim) {
+        match list_words::survey(self.arena().divided(), words, self.chain(), aim) {
             Verdict::Damaged => Look::Damaged,
             Verdict::Sound(spot) => Look::Sound(spot),
         }
     }
 
     // The next handle of every accepted call.
-    fn close(mut self, head: Addr, ranges: u64, bytes: Size) -> ListLand
+    pub fn close(mut self, head: Addr, ranges: u64, bytes: Size) -> ListLand
         ensures { λ r. ⌜ r ≡ closedWith self head ranges bytes ⌝ }
     {
         self.head = head;

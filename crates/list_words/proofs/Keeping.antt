@@ -1,20 +1,28 @@
 -- What the walk keeps of a sorted list: the range aimed at, with the range before it and the base after it. Assumes nothing.
 use Prim.Native.Nat.{ℕ, suc, _<_}
-use mathlib.Core.Bool.{true, false, cond}
+use mathlib.Core.Bool.{true, false}
 use mathlib.Core.List.{List, [], _∷_, _++_, append-assoc, append-nil}
 use mathlib.Core.Option.{Option, none, some}
 use mathlib.Core.Path.{_≡_, refl, sym, ap, subst, _∙_}
 use native.Mathlib.Omega.{arith}
 use lib.Dec.{eqb}
 use borrow.Author.Tests.{ne-eqb}
+use Rattle.units.specs.Aims.{none-range, takes}
+use Rattle.units.specs.Words.{addr}
+use Rattle.units.specs.declared.Addr.{Addr}
 use Rattle.units.specs.declared.Range as units
+use Rattle.units.specs.declared.Size.{Size}
+use Rattle.units.specs.declared.Which.{Which}
+use Rattle.units.specs.declared.aims.Aim.{Aim}
 use Rattle.units.proofs.Tests.{by}
-use Rattle.model.specs.Marks.{Range}
+use Rattle.model.specs.Marks.{Range, struct}
 use Rattle.model.specs.Lists.{Apart}
-use Rattle.list_words.specs.Words.{addr, struct}
+use Rattle.model.specs.Steps.{choose, next-from}
+use Rattle.model.specs.Picks.{here-of}
+use Rattle.model.proofs.Reaching.{reach}
+use Rattle.model.proofs.Aiming.{choice, pick-by, by-reach, by-from, by-find}
 use Rattle.list_words.specs.Laying.{head-of}
-use Rattle.list_words.specs.Surveys.{takes, kept-on, none-range, no-spot, at-end, keeping, kept-of}
-use Rattle.list_words.specs.declared.Aim.{Aim}
+use Rattle.list_words.specs.Surveys.{kept-on, no-spot, at-end, keeping, kept-of}
 use Rattle.list_words.specs.declared.Spot.{Spot}
 
 -- the range before a place: the last of those in front, or none
@@ -43,10 +51,6 @@ Placed rs none s = Behind rs s
 Placed rs (some q) s = At rs q s
 
 -- what is kept so far
-abbrev here-of : Option Range → units.Range
-here-of none = none-range
-here-of (some q) = struct q
-
 abbrev Keeps : List Range → Option Range → Spot → Type 0
 Keeps whole none k = k .here ≡ none-range
 Keeps whole (some q) k = At whole q k
@@ -54,14 +58,6 @@ Keeps whole (some q) k = At whole q k
 keeps-here : (whole : List Range) (o : Option Range) (k : Spot) → Keeps whole o k → k .here ≡ here-of o
 keeps-here whole none k h = h
 keeps-here whole (some q) k h = h .here
-
--- the same on ranges alone
-abbrev choice : Aim → Option Range → Range → Option Range
-choice aim o r = cond (takes aim (here-of o) (struct r)) (some r) o
-
-abbrev pub pick-by : Aim → Option Range → List Range → Option Range
-pick-by aim o [] = o
-pick-by aim o (r ∷ rs) = pick-by aim (choice aim o r) rs
 
 module _ (whole : List Range) (aim : Aim) where
   at-the-end : (p : units.Range) (k : Spot) (o : Option Range) → Last whole p → Keeps whole o k → Placed whole o (at-end p k)
@@ -91,3 +87,13 @@ module _ (whole : List Range) (aim : Aim) where
 
 pub kept-placed : (aim : Aim) (lo hi : ℕ) (rs : List Range) → 0 < lo → Apart lo hi rs → Placed rs (pick-by aim none rs) (kept-of aim rs)
 kept-placed aim lo hi rs z a = keep-on rs aim lo hi [] rs none-range no-spot none z a refl first refl
+
+module _ (lo hi : ℕ) (rs : List Range) (z : 0 < lo) (a : Apart lo hi rs) where
+  pub kept-reach : (x : Addr) → Placed rs (reach (x .0) rs) (kept-of (Aim.Reach x) rs)
+  kept-reach x = rw (by-reach x lo hi rs z a) at (kept-placed (Aim.Reach x) lo hi rs z a)
+
+  pub kept-from : (x : Addr) → Placed rs (next-from (x .0) rs) (kept-of (Aim.From x) rs)
+  kept-from x = rw (by-from x lo hi rs z a) at (kept-placed (Aim.From x) lo hi rs z a)
+
+  pub kept-find : (w : Which) (n : Size) → Placed rs (choose w (n .0) rs) (kept-of (Aim.Find w n) rs)
+  kept-find w n = rw (by-find n w lo hi rs z a) at (kept-placed (Aim.Find w n) lo hi rs z a)

@@ -2,10 +2,6 @@ pub mod Walking
 pub mod Stepping
 pub mod Moving
 pub mod Surveying
-pub mod Writing
 pub mod Laid
-pub mod Overlay
 pub mod Meeting
 pub mod Keeping
-pub mod Aiming
-pub mod Editing

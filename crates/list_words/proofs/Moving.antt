@@ -1,57 +1,16 @@
--- The ways out of `Aim::takes` and `Cursor::on`: which range a walk keeps, and a cursor one range further on. Assumes nothing.
+-- The ways out of `Cursor::on`: a cursor one range further on. Assumes nothing.
 use Prim.Native.Nat.{ℕ, _+_, _-_, _≤_, _<_}
 use mathlib.Core.Bool.{Bool, true, false}
-use mathlib.Core.Path.{_≡_, sym, _∙_, ap, ap₂}
-use lib.Dec.{eqb, ltb, leb}
+use mathlib.Core.Path.{_≡_, sym, _∙_, ap}
 use Rattle.units.specs.Words.{rangeOf}
+use Rattle.units.specs.Aims.{takes, Sized}
 use Rattle.units.specs.declared.Addr.{Addr}
 use Rattle.units.specs.declared.Range.{Range}
 use Rattle.units.specs.declared.Size.{Size}
-use Rattle.units.specs.declared.Which.{Which}
-use Rattle.list_words.specs.Surveys.{length-of, takes, Sized, spot, kept-on, onward, Near}
-use Rattle.list_words.specs.declared.Aim.{Aim}
+use Rattle.units.specs.declared.aims.Aim.{Aim}
+use Rattle.list_words.specs.Surveys.{spot, kept-on, onward, Near}
 use Rattle.list_words.specs.declared.Cursor.{Cursor}
 use Rattle.list_words.specs.declared.Spot.{Spot}
-
--- each way out of `takes`
-module _ (aim : Aim) (kept here : Range) (z : Bool) (ez : z ≡ eqb (kept .base .0) 0) where
-  module _ (x : Addr) (e : aim ≡ Aim.Reach x) where
-    pub reach-first : z ≡ true → (r : Bool) → r ≡ leb (x .0) (here .limit .0) → r ≡ takes aim kept here
-    reach-first f r er = rw (e, sym ez ∙ f) er
-
-    pub reach-again : z ≡ false → false ≡ takes aim kept here
-    reach-again f = rw (e, sym ez ∙ f)
-
-  module _ (x : Addr) (e : aim ≡ Aim.From x) where
-    pub from-first : z ≡ true → (r : Bool) → r ≡ leb (x .0) (here .base .0) → r ≡ takes aim kept here
-    from-first f r er = rw (e, sym ez ∙ f) er
-
-    pub from-again : z ≡ false → false ≡ takes aim kept here
-    from-again f = rw (e, sym ez ∙ f)
-
-  module _ (w : Which) (n : Size) (e : aim ≡ Aim.Find w n) (s : Size) (es : s .0 ≡ length-of here) (t : Bool) (et : t ≡ ltb (s .0) (n .0)) where
-    short : t ≡ ltb (length-of here) (n .0)
-    short = et ∙ ap (λ (k : ℕ). ltb k (n .0)) es
-
-    pub find-short : t ≡ true → false ≡ takes aim kept here
-    find-short f = rw (e, sym short ∙ f)
-
-    module _ (f : t ≡ false) where
-      pub find-first : z ≡ true → true ≡ takes aim kept here
-      find-first g = rw (e, sym short ∙ f, sym ez ∙ g)
-
-      module _ (g : z ≡ false) where
-        pub find-stays : w ≡ Which.First → false ≡ takes aim kept here
-        find-stays h = rw (e, sym short ∙ f, sym ez ∙ g, h)
-
-        pub find-moves : w ≡ Which.Last → true ≡ takes aim kept here
-        find-moves h = rw (e, sym short ∙ f, sym ez ∙ g, h)
-
-        pub find-larger : w ≡ Which.Largest → (u v : Size) → u .0 ≡ length-of kept → v .0 ≡ length-of here → (r : Bool) → r ≡ ltb (u .0) (v .0) →
-            r ≡ takes aim kept here
-        find-larger h u v eu ev r er = rw (e, sym short ∙ f, sym ez ∙ g, h) (er ∙ ap₂ ltb eu ev)
-
-pub ruleset takings = (reach-first, reach-again, from-first, from-again, find-short, find-first, find-stays, find-moves, find-larger)
 
 -- a cursor one range further on, from its parts
 module _ (c : Cursor) (aim : Aim) (e n : Addr) (p : Range) (ep : p ≡ rangeOf (c .at .0) (e .0)) where

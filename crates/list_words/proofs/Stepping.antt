@@ -7,7 +7,7 @@ use native.Mathlib.Omega.{arith}
 use lib.ListN.{length, getD, List·getD-eq-default}
 use lib.Dec.{eqb, leb, ltb}
 use borrow.Author.Tests.{le-leb, lt-leb, ltb-true, ltb-false}
-use Rattle.units.specs.Words.{wordNumber, mayBegin, mayEnd}
+use Rattle.units.specs.Words.{wordNumber, mayBegin, mayEnd, addr}
 use Rattle.units.specs.declared.Addr.{Addr}
 use Rattle.units.specs.declared.Size.{Size}
 use Rattle.units.specs.declared.rules.Arena.{Arena}
@@ -15,7 +15,7 @@ use Rattle.units.proofs.Tests.{conj}
 use Rattle.units.proofs.Ways.{said-true, said-false}
 use Rattle.units.proofs.Facts.{arena-facts}
 use Rattle.units.proofs.Alignments.{align-positive, multiple-8}
-use Rattle.list_words.specs.Words.{addr, wordAt, tagAt, nextAt, stepAt}
+use Rattle.list_words.specs.Words.{wordAt, tagAt, nextAt, stepAt}
 use Rattle.list_words.specs.Surveys.{Ready}
 use Rattle.list_words.specs.declared.Met.{Met}
 

@@ -10,17 +10,18 @@ use types.Run.{OneOf}
 use denote.Enum.Declared.{tagOf}
 use lib.Dec.{eqb}
 use borrow.Author.Tests.{eqb-true, eqb-false, eq-eqb, ne-eqb}
-use Rattle.units.specs.Words.{rangeOf}
+use Rattle.units.specs.Words.{rangeOf, addr}
 use Rattle.units.specs.declared.Addr.{Addr}
 use Rattle.units.specs.declared.Range.{Range}
 use Rattle.units.specs.declared.Size.{Size}
 use Rattle.units.specs.declared.rules.Arena.{Arena}
+use Rattle.units.specs.Aims.{takes, none-range}
+use Rattle.units.specs.declared.aims.Aim.{Aim}
 use Rattle.units.proofs.Tests.{by}
 use Rattle.units.proofs.Ways.{said-true, said-false}
 use Rattle.model.specs.Lists.{total}
-use Rattle.list_words.specs.Words.{addr, Ending, clean, bad-base, bad-descriptor, Walk, stepAt, isClean, soundWalk}
-use Rattle.list_words.specs.Surveys.{Ready, walkIn, walkOf, takes, spot, kept-on, onward, Near, none-range, at-end, keeping, kept-of, surveyOf}
-use Rattle.list_words.specs.declared.Aim.{Aim}
+use Rattle.list_words.specs.Words.{Ending, clean, bad-base, bad-descriptor, Walk, stepAt, isClean, soundWalk}
+use Rattle.list_words.specs.Surveys.{Ready, walkIn, walkOf, spot, kept-on, onward, Near, at-end, keeping, kept-of, surveyOf}
 use Rattle.list_words.specs.declared.Chain.{Chain}
 use Rattle.list_words.specs.declared.Cursor.{Cursor}
 use Rattle.list_words.specs.declared.Met.{Met}

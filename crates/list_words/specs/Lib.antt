@@ -1,4 +1,3 @@
 pub mod Words
 pub mod Laying
 pub mod Surveys
-pub mod Edits

@@ -1,23 +1,22 @@
 -- What the walk over the whole list keeps: contracts of inner functions. Assumes nothing.
 use Prim.Native.Nat.{ℕ, _+_, _-_, _≤_, _<_}
-use mathlib.Core.Bool.{Bool, true, false, not, cond, _&&_, _||_}
+use mathlib.Core.Bool.{cond}
 use mathlib.Core.List.{List, [], _∷_}
 use mathlib.Core.Path.{_≡_}
-use lib.Dec.{eqb, ltb, leb}
 use Rattle.units.specs.declared.Addr.{Addr}
 use Rattle.units.specs.declared.Range.{Range}
-use Rattle.units.specs.declared.Which.{Which}
+use Rattle.units.specs.declared.aims.Aim.{Aim}
 use Rattle.units.specs.declared.rules.Arena.{Arena}
 use Rattle.units.specs.declared.rules.ArenaCheck.{ArenaCheck}
 use Rattle.units.specs.Rules.{arenaCheck}
-use Rattle.units.specs.Words.{wordNumber, rangeOf}
+use Rattle.units.specs.Words.{addr, wordNumber, rangeOf}
+use Rattle.units.specs.Aims.{none-range, isNone, takes}
 use Rattle.model.specs.Marks as marks
-use Rattle.list_words.specs.declared.Aim.{Aim}
 use Rattle.list_words.specs.declared.Chain.{Chain}
 use Rattle.list_words.specs.declared.Cursor.{Cursor}
 use Rattle.list_words.specs.declared.Spot.{Spot}
 use Rattle.list_words.specs.declared.Verdict.{Verdict}
-use Rattle.list_words.specs.Words.{addr, Walk, walkFrom, soundWalk}
+use Rattle.list_words.specs.Words.{Walk, walkFrom, soundWalk}
 use Rattle.list_words.specs.Laying.{head-of}
 
 -- The set-up is good: an arena, and as many words as it has.
@@ -32,29 +31,6 @@ walkIn a ws low x = walkFrom (a .base .0) (a .limit .0) (a .align .0) ws low x
 -- The walk from head.
 abbrev pub walkOf : Arena → List ℕ → ℕ → Walk
 walkOf a ws head = walkIn a ws (a .base .0) head
-
--- Two ranges whose sizes are taken.
-pub record Sized (kept here : Range) : Type 0 where
-  pub kept-order : kept .base .0 ≤ kept .limit .0
-  pub here-order : here .base .0 ≤ here .limit .0
-
-abbrev pub length-of : Range → ℕ
-length-of r = r .limit .0 - r .base .0
-
-abbrev pub isNone : Range → Bool
-isNone r = eqb (r .base .0) 0
-
--- Of two ranges long enough, the later is kept.
-abbrev pub beats : Which → Range → Range → Bool
-beats Which.First kept here = false
-beats Which.Last kept here = true
-beats Which.Largest kept here = ltb (length-of kept) (length-of here)
-
--- Whether a walk that has kept one range keeps another instead.
-abbrev pub takes : Aim → Range → Range → Bool
-takes (Aim.Reach x) kept here = isNone kept && leb (x .0) (here .limit .0)
-takes (Aim.From x) kept here = isNone kept && leb (x .0) (here .base .0)
-takes (Aim.Find w n) kept here = not (ltb (length-of here) (n .0)) && (isNone kept || beats w kept here)
 
 abbrev pub spot : Range → Range → Addr → Spot
 spot p r n = record { prev = p; here = r; next = n }
@@ -80,9 +56,6 @@ pub record Near (c : Cursor) (e : ℕ) : Type 0 where
   pub count : c .count < 18446744073709551615
   pub bytes : c .bytes .0 + (e - c .at .0) < 18446744073709551616
   pub kept : c .kept .here .base .0 ≤ c .kept .here .limit .0
-
-abbrev pub none-range : Range
-none-range = rangeOf 0 0
 
 -- What is kept at the end, behind the range p.
 abbrev pub at-end : Range → Spot → Spot

@@ -1,20 +1,17 @@
-// The words of the list land: a descriptor read, the one walk over all of them, and an edit written.
+// The words of the list land: a descriptor read, and the one walk over all of them.
 //
 // Every function here is proved, and the crate assumes nothing of its own. These are inner functions: a `requires`
 // says what the calls of the land have checked before.
 use units::Addr;
+use units::Aim;
 use units::Arena;
 use units::Range;
 use units::Size;
-use units::Which;
 ghost use mathlib.Core.Path.{_≡_};
 ghost use Prim.Native.Nat.{_≤_};
 ghost use lib.ListN.{length};
-ghost use Rattle.model.specs.Marks.{rng};
 ghost use Rattle.list_words.specs.Words.{stepAt};
-ghost use Rattle.list_words.specs.Laying.{describe};
-ghost use Rattle.list_words.specs.Surveys.{Ready, Near, onward, takes, Sized, surveyOf};
-ghost use Rattle.list_words.specs.Edits.{Room, PieceRoom, pieceHead, pieceWords, EditRoom, storeHead, storeWords};
+ghost use Rattle.list_words.specs.Surveys.{Ready, Near, onward, surveyOf};
 
 // What the words say of a range at an address: its limit and the next range's base, or what is at fault.
 pub enum Met {
@@ -28,13 +25,6 @@ pub struct Spot {
     pub prev: Range,
     pub here: Range,
     pub next: Addr,
-}
-
-// What a walk looks for: the first range whose limit, or whose base, is at or above an address, or what a find chooses.
-pub enum Aim {
-    Reach(Addr),
-    From(Addr),
-    Find(Which, Size),
 }
 
 // Where a walk stands: the range before, the lowest base that may come, the base that comes, the ranges and bytes met,
@@ -59,14 +49,6 @@ pub struct Chain {
 pub enum Verdict {
     Damaged,
     Sound(Spot),
-}
-
-// What is to stand behind a range: low, then high, each if it is not empty, then the range at next.
-pub struct Edit {
-    pub prev: Range,
-    pub low: Range,
-    pub high: Range,
-    pub next: Addr,
 }
 
 // What the words say of a range at `at`, where none may begin below `low`.
@@ -99,43 +81,6 @@ pub fn step(arena: Arena, words: &[u64], low: Addr, at: Addr) -> Met
         return Met::BadDescriptor;
     }
     Met::Found(end, units::untagged(w))
-}
-
-impl Aim {
-    // Whether a walk that has kept `kept` keeps the range `here` instead.
-    fn takes(self, kept: Range, here: Range) -> bool
-        requires { ⌜ Sized kept here ⌝ }
-        ensures { λ r. ⌜ r ≡ takes self kept here ⌝ }
-    {
-        let none = kept.base.is_zero();
-        match self {
-            Aim::Reach(x) => {
-                if none {
-                    return x.le(here.limit);
-                }
-                false
-            }
-            Aim::From(x) => {
-                if none {
-                    return x.le(here.base);
-                }
-                false
-            }
-            Aim::Find(which, n) => {
-                if here.size().lt(n) {
-                    return false;
-                }
-                if none {
-                    return true;
-                }
-                match which {
-                    Which::First => false,
-                    Which::Last => true,
-                    Which::Largest => kept.size().lt(here.size()),
-                }
-            }
-        }
-    }
 }
 
 impl Cursor {
@@ -218,49 +163,4 @@ pub fn survey(arena: Arena, words: &[u64], chain: Chain, aim: Aim) -> Verdict
         });
     }
     Verdict::Sound(found)
-}
-
-// Writes the descriptor of a range with the next range's base.
-fn lay(words: &mut [u64], start: Addr, range: Range, next: Addr)
-    requires { ⌜ Room (start .0) (length (now words)) (range .base .0) (range .limit .0) (next .0) ⌝ }
-    ensures { λ _. ⌜ now (words .exit) ≡ describe (start .0) (rng (range .base .0) (range .limit .0)) (next .0) (now (words .entry)) ⌝ }
-{
-    let i = range.base.word_from(start);
-    if range.is_grain() {
-        words[i] = next.tagged_word();
-    } else {
-        words[i] = next.number();
-        words[i + 1] = range.limit.number();
-    }
-}
-
-// Writes a range before the one at `next`, if it is not empty, and hands back the base that then comes first.
-fn piece(words: &mut [u64], start: Addr, range: Range, next: Addr) -> Addr
-    requires { ⌜ PieceRoom (start .0) (length (now words)) range (next .0) ⌝ }
-    ensures { λ r. ⌜ (r ≡ pieceHead range next) × (now (words .exit) ≡ pieceWords (start .0) (now (words .entry)) range (next .0)) ⌝ }
-{
-    let base = range.base;
-    if !base.lt(range.limit) {
-        return next;
-    }
-    lay(words, start, range, next);
-    base
-}
-
-// Writes an edit of a list with this head, and hands back the head.
-pub fn store(words: &mut [u64], start: Addr, head: Addr, edit: Edit) -> Addr
-    requires { ⌜ EditRoom (start .0) (length (now words)) edit ⌝ }
-    ensures { λ r. ⌜ (r ≡ storeHead head edit) × (now (words .exit) ≡ storeWords (start .0) (now (words .entry)) edit) ⌝ }
-{
-    let prev = edit.prev;
-    let low = edit.low;
-    let high = edit.high;
-    let next = edit.next;
-    let upper = piece(words, start, high, next);
-    let first = piece(words, start, low, upper);
-    if prev.base.is_zero() {
-        return first;
-    }
-    lay(words, start, prev, first);
-    head
 }

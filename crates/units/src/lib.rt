@@ -1,19 +1,22 @@
 // Addresses, sizes and alignments as three kinds, and the arithmetic that unwraps them.
 //
 // No other crate sees the number inside one. Every function here is proved, and the crate assumes nothing of its own.
+pub mod aims;
 pub mod rules;
 
+pub use aims::Aim;
 pub use rules::AlignCheck;
 pub use rules::Arena;
 pub use rules::ArenaCheck;
 pub use rules::RangeCheck;
+pub use rules::SetUp;
 pub use rules::SizeCheck;
 ghost use mathlib.Core.Path.{_≡_};
 ghost use mathlib.Core.Bool.{true};
 ghost use Prim.Native.Nat.{_+_, _-_, _/_, _%_, _^_, _≤_, _<_};
 ghost use lib.Dec.{eqb, ltb, leb};
 ghost use Rattle.units.specs.Rules.{goodAlign, multiple};
-ghost use Rattle.units.specs.Words.{wordNumber, rangeOf};
+ghost use Rattle.units.specs.Words.{wordNumber, rangeOf, one};
 
 // The address of a byte.
 #[repr(C)]
@@ -284,5 +287,16 @@ impl Range {
         ensures { λ r. ⌜ r ≡ eqb (self .limit .0 - self .base .0) 8 ⌝ }
     {
         self.limit.0 - self.base.0 == 8
+    }
+
+    // One if the range is not empty, else none.
+    pub fn pieces(self) -> u64
+        ensures { λ r. ⌜ r ≡ one self ⌝ }
+        ensures { λ r. ⌜ r ≤ 1 ⌝ }
+    {
+        if self.base.0 < self.limit.0 {
+            return 1;
+        }
+        0
     }
 }

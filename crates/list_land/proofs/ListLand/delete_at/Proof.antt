@@ -2,10 +2,11 @@
 use mathlib.Core.Bool.{true}
 use mathlib.Core.Path.{_≡_}
 use borrow.Author.Needs.{needs}
+use Rattle.model.proofs.Checks.{range-bad, range-good}
 use Rattle.model.specs.Calls.{good-range}
 use Rattle.list_land.specs.Layout.{arenaOf}
 use Rattle.list_land.proofs.DeleteAnswers.{delete-4, delete-behind, delete-before, delete-cutting, delete-0}
-use Rattle.list_land.proofs.Requests.{sought-positive, range-bad, range-good}
+use Rattle.list_land.proofs.Requests.{sought-positive}
 use Rattle.list_land.proofs.ListLand.delete_at.Statement.{statement}
 use Rattle.list_land.proofs.ListLand.delete_at.Tie as tie
 
@@ -13,7 +14,7 @@ use Rattle.list_land.proofs.ListLand.delete_at.Tie as tie
 good : (k : tie.After-enum-told) → let a = k .before .before .before .before .before .args in good-range (arenaOf (a .self)) (a .range .base .0) (a .range .limit .0) ≡ true
 good k =
     let entry = k .before .before .before .before .before in
-    range-good (entry .args .self) (entry .args .range) _ (k .before .before .before .arena .ensures) _ (k .before .before .check-range .ensures) (k .enum-told .given .1)
+    range-good (arenaOf (entry .args .self)) _ (k .before .before .before .arena .ensures) (entry .args .range) _ (k .before .before .check-range .ensures) (k .enum-told .given .1)
 
 arena-requires : tie.Need-arena-requires
 arena-requires c κs = search needs
@@ -31,7 +32,7 @@ returns : tie.Need-returns
 returns c =
     let entry = c .before .before .before .before .before in
     delete-4 _ _ (entry .args .range) _ (entry .pre)
-    (range-bad (entry .args .self) (entry .args .range) _ (c .before .before .before .arena .ensures) _ (c .before .before .check-range .ensures) (c .before .match .keys2))
+    (range-bad (arenaOf (entry .args .self)) _ (c .before .before .before .arena .ensures) (entry .args .range) _ (c .before .before .check-range .ensures) (c .before .match .keys2))
     _ (c .refused .ensures)
 
 is-zero-requires : tie.Need-is-zero-requires

@@ -2,10 +2,11 @@
 use mathlib.Core.Bool.{true}
 use mathlib.Core.Path.{_≡_}
 use borrow.Author.Needs.{needs}
+use Rattle.model.proofs.Checks.{size-bad, size-good}
 use Rattle.model.specs.Calls.{good-size}
 use Rattle.list_land.specs.Layout.{arenaOf}
 use Rattle.list_land.proofs.FindAnswers.{find-4, find-2, find-within, find-kept, find-cutting, find-0}
-use Rattle.list_land.proofs.Requests.{sought-positive, size-bad, size-good}
+use Rattle.list_land.proofs.Requests.{sought-positive}
 use Rattle.list_land.proofs.ListLand.find_at.Statement.{statement}
 use Rattle.list_land.proofs.ListLand.find_at.Tie as tie
 
@@ -13,7 +14,7 @@ use Rattle.list_land.proofs.ListLand.find_at.Tie as tie
 good : (k : tie.After-enum-told) → let a = k .before .before .before .before .before .args in good-size (arenaOf (a .self)) (a .which) (a .size .0) ≡ true
 good k =
     let a = k .before .before .before .before .before .args in
-    size-good (a .self) (a .which) (a .size .0) _ (k .before .before .before .arena .ensures) _ (k .before .before .check-find .ensures) (k .enum-told .given .1)
+    size-good (arenaOf (a .self)) _ (k .before .before .before .arena .ensures) (a .which) (a .size .0) _ (k .before .before .check-find .ensures) (k .enum-told .given .1)
 
 arena-requires : tie.Need-arena-requires
 arena-requires c κs = search needs
@@ -31,7 +32,7 @@ returns : tie.Need-returns
 returns c =
     let entry = c .before .before .before .before .before in
     find-4 _ _ (entry .args .which) (entry .args .size) (entry .args .mode) _ (entry .pre)
-    (size-bad (entry .args .self) (entry .args .which) (entry .args .size .0) _ (c .before .before .before .arena .ensures) _ (c .before .before .check-find .ensures) (c .before .match .keys2))
+    (size-bad (arenaOf (entry .args .self)) _ (c .before .before .before .arena .ensures) (entry .args .which) (entry .args .size .0) _ (c .before .before .check-find .ensures) (c .before .match .keys2))
     _ (c .none-found .ensures)
 
 is-zero-requires : tie.Need-is-zero-requires

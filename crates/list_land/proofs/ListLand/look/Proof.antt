@@ -16,8 +16,11 @@ enum-told-2 c = search needs
 returns : tie.Need-returns
 returns c = search look-ways
 
-walk-arena-requires : tie.Need-walk-arena-requires
-walk-arena-requires c κs = search look-ways
+arena-requires : tie.Need-arena-requires
+arena-requires c κs = search needs
+
+divided-requires : tie.Need-divided-requires
+divided-requires c κs = search look-ways
 
 chain-requires : tie.Need-chain-requires
 chain-requires c κs = search needs
@@ -45,7 +48,8 @@ look-spec =
     enum-told
     enum-told-2
     returns
-    walk-arena-requires
+    arena-requires
+    divided-requires
     chain-requires
     survey-requires
     enum-told-3

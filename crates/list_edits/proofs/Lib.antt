@@ -1,0 +1,4 @@
+pub mod Writing
+pub mod Overlay
+pub mod Editing
+pub mod PlaceWays
