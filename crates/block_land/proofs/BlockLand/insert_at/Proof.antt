@@ -1,0 +1,125 @@
+-- `BlockLand::insert_at` meets its contract: 4, 1, 3, and the edit done. Assumes nothing.
+use mathlib.Core.Bool.{true}
+use mathlib.Core.List.{[]}
+use mathlib.Core.Path.{_≡_}
+use Rattle.model.specs.Calls.{good-range}
+use Rattle.model.proofs.Checks.{range-bad, range-good}
+use Rattle.block_land.specs.Layout.{arenaOf}
+use Rattle.block_land.proofs.EditAnswers.{readable-positive, sorted, edit-order, edit-order-le, insert-4, insert-1, insert-3, insert-room, insert-0}
+use borrow.Author.Needs.{needs}
+use Rattle.block_land.proofs.BlockLand.insert_at.Statement.{statement}
+use Rattle.block_land.proofs.BlockLand.insert_at.Tie as tie
+
+-- the request keeps the rules
+good : (k : tie.After-enum-told) → let entry = k .before .before .before .before .before in
+    good-range (arenaOf (entry .args .self) []) (entry .args .range .base .0) (entry .args .range .limit .0) ≡ true
+good k =
+    let entry = k .before .before .before .before .before in
+    range-good (arenaOf (entry .args .self) []) _ (k .before .before .before .arena .ensures) (entry .args .range) _ (k .before .before .check-range .ensures) (k .enum-told .given .1)
+
+arena-requires : tie.Need-arena-requires
+arena-requires c κs = search needs
+
+check-range-requires : tie.Need-check-range-requires
+check-range-requires c κs = search readable-positive
+
+enum-told : tie.Need-enum-told
+enum-told c = search needs
+
+refused-requires : tie.Need-refused-requires
+refused-requires c κs = search needs
+
+returns : tie.Need-returns
+returns c =
+    let entry = c .before .before .before .before .before in
+    insert-4 _ _ (entry .args .range) (entry .pre)
+    (range-bad (arenaOf (entry .args .self) []) _ (c .before .before .before .arena .ensures) (entry .args .range) _ (c .before .before .check-range .ensures) (c .before .match .keys2))
+    _ (c .refused .ensures)
+
+put-in-requires : tie.Need-put-in-requires
+put-in-requires c κs =
+    let checked = c .before in
+    let entry = checked .before .before .before .before .before in
+    (sorted _ _ (entry .pre), edit-order _ _ (entry .args .range) (entry .pre) (good checked))
+
+enum-told-2 : tie.Need-enum-told-2
+enum-told-2 c = search needs
+
+refused-requires-2 : tie.Need-refused-requires-2
+refused-requires-2 c κs = search needs
+
+enum-told-3 : tie.Need-enum-told-3
+enum-told-3 c = search needs
+
+refused-requires-3 : tie.Need-refused-requires-3
+refused-requires-3 c κs = search needs
+
+enum-known-fresh : tie.Need-enum-known-fresh
+enum-known-fresh c = search needs
+
+size-requires : tie.Need-size-requires
+size-requires c κs =
+    let checked = c .before .before .before .before .before .before .before in
+    let entry = checked .before .before .before .before .before in
+    edit-order-le _ _ (entry .args .range) (entry .pre) (good checked)
+
+plus-requires : tie.Need-plus-requires
+plus-requires c κs =
+    let checked = c .before .before .before .before .before .before .before .before in
+    let entry = checked .before .before .before .before .before in
+    insert-room _ _ (entry .args .range) (entry .pre) (good checked) _ _ (c .before .before .before .before .before .before .put-in .ensures) _ (c .size .ensures)
+
+close-requires : tie.Need-close-requires
+close-requires c κs = search needs
+
+same-length : tie.Need-same-length
+same-length c = search needs
+
+returns-2 : tie.Need-returns-2
+returns-2 c =
+    let checked = c .before .before .before .before .before .before .before in
+    let entry = checked .before .before .before .before .before in
+    insert-1 _ _ (entry .args .range) (entry .pre) (good checked) _ _ (c .before .before .before .before .before .put-in .ensures) (c .before .enum-told2 .given .1) _ (c .refused2 .ensures)
+
+same-length-2 : tie.Need-same-length-2
+same-length-2 c = search needs
+
+returns-3 : tie.Need-returns-3
+returns-3 c =
+    let checked = c .before .before .before .before .before .before .before in
+    let entry = checked .before .before .before .before .before in
+    insert-3 _ _ (entry .args .range) (entry .pre) (good checked) _ _ (c .before .before .before .before .before .put-in .ensures) (c .before .enum-told3 .given .1) _ (c .refused3 .ensures)
+
+same-length-3 : tie.Need-same-length-3
+same-length-3 c = search needs
+
+returns-4 : tie.Need-returns-4
+returns-4 c =
+    let checked = c .before .before .before .before .before .before .before .before .before .before in
+    let entry = checked .before .before .before .before .before in
+    insert-0 _ _ (entry .args .range) (entry .pre) (good checked) _ _ (c .before .before .before .before .before .before .before .before .put-in .ensures) _ _ (c .before .before .before .before .fresh .given .1) _ (c .before .before .size .ensures) _ (c .before .plus .ensures) _ (c .close .ensures)
+
+pub insert-at-spec : {M : Type 1} → statement M
+insert-at-spec =
+    tie.close
+    (tie.spec
+    arena-requires
+    check-range-requires
+    enum-told
+    refused-requires
+    returns
+    put-in-requires
+    enum-told-2
+    refused-requires-2
+    enum-told-3
+    refused-requires-3
+    enum-known-fresh
+    size-requires
+    plus-requires
+    close-requires
+    same-length
+    returns-2
+    same-length-2
+    returns-3
+    same-length-3
+    returns-4)

@@ -1,0 +1,27 @@
+-- `BlockLand::set_up` meets its contract. Assumes nothing.
+use Rattle.block_land.proofs.Ways.{set-up-ways}
+use borrow.Author.Needs.{needs}
+use Rattle.block_land.proofs.BlockLand.set_up.Statement.{statement}
+use Rattle.block_land.proofs.BlockLand.set_up.Tie as tie
+
+arena-requires : tie.Need-arena-requires
+arena-requires c κs = search needs
+
+check-requires : tie.Need-check-requires
+check-requires c κs = search needs
+
+enum-told : tie.Need-enum-told
+enum-told c = search needs
+
+returns : tie.Need-returns
+returns c = search set-up-ways
+
+returns-2 : tie.Need-returns-2
+returns-2 c = search set-up-ways
+
+returns-3 : tie.Need-returns-3
+returns-3 c = search set-up-ways
+
+pub set-up-spec : {M : Type 1} → statement M
+set-up-spec =
+    tie.close (tie.spec arena-requires check-requires enum-told returns returns-2 returns-3)

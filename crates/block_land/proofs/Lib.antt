@@ -1,0 +1,9 @@
+pub mod Sound
+pub mod LayoutLaws
+pub mod Ways
+pub mod Answers
+pub mod EditAnswers
+pub mod Chosen
+pub mod FindAnswers
+pub mod WalkAnswers
+pub mod DemandMet

@@ -1,0 +1,115 @@
+-- The ways out of the inner functions of the block land. Assumes nothing.
+use Prim.Native.Nat.{ℕ, _≤_, _<_}
+use mathlib.Core.Bool.{true, false, cond}
+use mathlib.Core.List.{List, [], _∷_}
+use mathlib.Core.Path.{_≡_, sym, ap, _∙_}
+use native.Mathlib.Omega.{arith}
+use lib.ListN.{length}
+use types.Run.{OneOf}
+use denote.Enum.Declared.{tagOf}
+use borrow.Author.Tests.{le-leb, lt-leb}
+use Rattle.units.specs.Aims.{none-range}
+use Rattle.units.specs.Rules.{arenaCheck, goodArena, setUpOf}
+use Rattle.units.specs.Words.{rangeOf}
+use Rattle.units.specs.declared.Addr.{Addr}
+use Rattle.units.specs.declared.Align.{Align}
+use Rattle.units.specs.declared.Range.{Range}
+use Rattle.units.specs.declared.Size.{Size}
+use Rattle.units.specs.declared.aims.Aim.{Aim}
+use Rattle.units.specs.declared.rules.Arena.{Arena}
+use Rattle.units.specs.declared.rules.ArenaCheck.{ArenaCheck}
+use Rattle.units.specs.declared.rules.SetUp.{SetUp}
+use Rattle.units.proofs.Cases.{bad-arena, set-up-true, set-up-false}
+use Rattle.units.proofs.Tests.{by}
+use Rattle.units.proofs.rules.ArenaCheck as arena-type
+use Rattle.model.specs.Picks.{picked}
+use Rattle.block_words.specs.Surveys.{Ready, surveyOf}
+use Rattle.block_words.specs.Words.{fill}
+use Rattle.block_words.specs.declared.Verdict.{Verdict}
+use Rattle.block_land.specs.Calls.{refusedBy, foundNone, newLand, openedOf, openedWords}
+use Rattle.block_land.specs.Layout.{base, limit, align, setUp, sound, tableOf}
+use Rattle.block_land.specs.Parts.{arenaIn, lookOf}
+use Rattle.block_land.specs.declared.BlockLand.{BlockLand}
+use Rattle.block_land.specs.declared.Look.{Look}
+use Rattle.block_land.proofs.Sound.{placed}
+
+pub refused-made : (h : BlockLand) (n : ℕ) (r : Range) → r ≡ rangeOf 0 0 → record { land = h; answer = n; range = r } ≡ refusedBy h n
+refused-made h n r e = rw e
+
+pub none-made : (h : BlockLand) (n : ℕ) (r o : Range) → r ≡ rangeOf 0 0 → o ≡ rangeOf 0 0 → record { land = h; answer = n; range = r; old = o } ≡ foundNone h n
+none-made h n r o e f = rw (e, f)
+
+pub new-made : (b l : Addr) (a : Align) (s : Size) → s .0 ≡ 0 → record { base = b; limit = l; align = a; ranges = 0; bytes = s } ≡ newLand (b .0) (l .0) (a .0)
+new-made b l a s e = λ i. record { base = b; limit = l; align = a; ranges = 0; bytes = record { 0 = e i } }
+
+-- THE SET-UP
+module _ (h : BlockLand) (ws : List ℕ) (a : Arena) (ea : a ≡ arenaIn h) (x : ArenaCheck) (e : x ≡ arenaCheck (a .base .0) (a .limit .0) (a .align .0)) where
+  here : x ≡ arenaCheck (base h) (limit h) (align h)
+  here = e ∙ ap (λ (v : Arena). arenaCheck (v .base .0) (v .limit .0) (v .align .0)) ea
+
+  pub set-up-bad : OneOf (1 ∷ 2 ∷ 3 ∷ []) (tagOf arena-type.the-type x) → SetUp.Bad ≡ setUpOf (setUp h ws)
+  unfolding setUp
+  set-up-bad t = let g : goodArena (arenaCheck (base h) (limit h) (align h)) ≡ false = rw here at (bad-arena x t) in rw g
+
+  module _ (g : x ≡ ArenaCheck.Good) where
+    good : arenaCheck (base h) (limit h) (align h) ≡ ArenaCheck.Good
+    good = sym here ∙ g
+
+    pub set-up-good : length ws ≤ 2097152 → SetUp.Good ≡ setUpOf (setUp h ws)
+    unfolding setUp
+    set-up-good k = rw (good, le-leb (length ws) 2097152 k)
+
+    pub set-up-long : 2097152 < length ws → SetUp.Bad ≡ setUpOf (setUp h ws)
+    unfolding setUp
+    set-up-long k = rw (good, lt-leb (length ws) 2097152 k)
+
+pub ruleset set-up-ways = (set-up-bad, set-up-good, set-up-long)
+
+-- THE LOOK
+module _ (h : BlockLand) (ws : List ℕ) (aim : Aim) (r : SetUp) (e : r ≡ setUpOf (setUp h ws)) where
+  pub look-bad : r ≡ SetUp.Bad → Look.BadSetUp ≡ lookOf h ws aim
+  unfolding lookOf
+  look-bad f = rw (set-up-false (setUp h ws) r e f)
+
+  module _ (f : r ≡ SetUp.Good) (a : Arena) (ea : a ≡ arenaIn h) where
+    pub look-ready : Ready a
+    look-ready = rw ea (placed h ws (set-up-true (setUp h ws) r e f) .check)
+
+    module _ (v : Verdict) (ev : v ≡ surveyOf a ws (h .ranges) (h .bytes) aim) where
+      seen : v ≡ cond (sound h ws) (Verdict.Sound (picked aim none-range (tableOf h ws))) Verdict.Damaged
+      unfolding surveyOf sound
+      seen = ev ∙ ap (λ (x : Arena). surveyOf x ws (h .ranges) (h .bytes) aim) ea
+
+      pub look-damaged : v ≡ Verdict.Damaged → Look.Damaged ≡ lookOf h ws aim
+      unfolding lookOf
+      look-damaged g =
+          by (sound h ws)
+          (λ t. let q : v ≡ Verdict.Sound (picked aim none-range (tableOf h ws)) = rw t at seen in let z : _≡_ {A = ℕ} 0 1 = cc in absurd (omega arith))
+          (λ t. rw (set-up-true (setUp h ws) r e f, t))
+
+      pub look-sound : (s : Range) → v ≡ Verdict.Sound s → Look.Sound s ≡ lookOf h ws aim
+      unfolding lookOf
+      look-sound s g =
+          by (sound h ws)
+          (λ t. let q : v ≡ Verdict.Sound (picked aim none-range (tableOf h ws)) = rw t at seen in
+          let w : s ≡ picked aim none-range (tableOf h ws) = cc in rw (set-up-true (setUp h ws) r e f, t) (ap (λ (x : Range). Look.Sound x) w))
+          (λ t. let q : v ≡ Verdict.Damaged = rw t at seen in let z : _≡_ {A = ℕ} 0 1 = cc in absurd (omega arith))
+
+pub ruleset look-ways = (look-bad, look-ready, look-damaged, look-sound)
+
+-- AN OPENING
+module _ (b l a : ℕ) (ws : List ℕ) (h : BlockLand) (eh : h ≡ newLand b l a) (r : SetUp) (e : r ≡ setUpOf (setUp h ws)) where
+  pub open-good : r ≡ SetUp.Good → (vs : List ℕ) → vs ≡ fill [] ws → (record { land = h; answer = 0 } ≡ openedOf b l a ws) × (vs ≡ openedWords b l a ws)
+  unfolding openedOf openedWords
+  open-good f vs v =
+      let t : setUp (newLand b l a) ws ≡ true = rw eh at (set-up-true (setUp h ws) r e f) in
+      (rw t (ap (λ (x : BlockLand). record { land = x; answer = 0 }) eh), rw t v)
+
+  pub open-bad : r ≡ SetUp.Bad → (z : BlockLand) → z ≡ newLand 0 0 0 → (record { land = z; answer = 5 } ≡ openedOf b l a ws) × (ws ≡ openedWords b l a ws)
+  unfolding openedOf openedWords
+  open-bad f z ez =
+      let t : setUp (newLand b l a) ws ≡ false = rw eh at (set-up-false (setUp h ws) r e f) in
+      (rw t (ap (λ (x : BlockLand). record { land = x; answer = 5 }) ez), rw t)
+
+pub new-zero : (z : Addr) (n : Align) → z .0 ≡ 0 → n .0 ≡ 0 → (h : BlockLand) → h ≡ newLand (z .0) (z .0) (n .0) → h ≡ newLand 0 0 0
+new-zero z n ez en h e = e ∙ rw (ez, en)

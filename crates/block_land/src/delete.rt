@@ -1,0 +1,47 @@
+// Delete: a range taken out of the range of a sound table that holds it.
+use crate::BlockLand;
+use crate::Changed;
+use crate::Look;
+use crate::refused;
+use block_edits::Edited;
+use units::Aim;
+use units::Range;
+use units::RangeCheck;
+ghost use mathlib.Core.Path.{_≡_};
+ghost use Rattle.block_land.specs.Calls.{changed, deleted};
+ghost use Rattle.block_land.specs.Parts.{Readable};
+
+impl BlockLand {
+    // Delete from a sound table.
+    fn delete_at(self, nodes: &mut [u64], range: Range) -> Changed
+        requires { ⌜ Readable self (now nodes) ⌝ }
+        ensures { λ r. ⌜ (r ≡ changed (deleted self (now (nodes .entry)) range)) × (now (nodes .exit) ≡ deleted self (now (nodes .entry)) range .words) ⌝ }
+    {
+        let RangeCheck::Good = self.arena().check_range(range) else {
+            return refused(self, 4);
+        };
+        match block_edits::cut_out(nodes, self.ranges, range) {
+            Edited::Refused => refused(self, 1),
+            Edited::Full => refused(self, 3),
+            Edited::Done(old, count) => {
+                let bytes = self.bytes.minus(range.size());
+                Changed {
+                    land: self.close(count, bytes),
+                    answer: 0,
+                    range: old,
+                }
+            }
+        }
+    }
+
+    // Takes a range out that is wholly free. The range returned is the isolated one that contained it before.
+    pub fn delete(self, nodes: &mut [u64], range: Range) -> Changed
+        ensures { λ r. ⌜ (r ≡ changed (deleted self (now (nodes .entry)) range)) × (now (nodes .exit) ≡ deleted self (now (nodes .entry)) range .words) ⌝ }
+    {
+        match self.look(nodes, Aim::Nothing) {
+            Look::BadSetUp => refused(self, 5),
+            Look::Damaged => refused(self, 6),
+            Look::Sound(_) => self.delete_at(nodes, range),
+        }
+    }
+}

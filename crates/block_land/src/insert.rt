@@ -1,0 +1,47 @@
+// Insert: a range put into a sound table, joined with the ranges that it touches.
+use crate::BlockLand;
+use crate::Changed;
+use crate::Look;
+use crate::refused;
+use block_edits::Edited;
+use units::Aim;
+use units::Range;
+use units::RangeCheck;
+ghost use mathlib.Core.Path.{_≡_};
+ghost use Rattle.block_land.specs.Calls.{changed, inserted};
+ghost use Rattle.block_land.specs.Parts.{Readable};
+
+impl BlockLand {
+    // Insert into a sound table.
+    fn insert_at(self, nodes: &mut [u64], range: Range) -> Changed
+        requires { ⌜ Readable self (now nodes) ⌝ }
+        ensures { λ r. ⌜ (r ≡ changed (inserted self (now (nodes .entry)) range)) × (now (nodes .exit) ≡ inserted self (now (nodes .entry)) range .words) ⌝ }
+    {
+        let RangeCheck::Good = self.arena().check_range(range) else {
+            return refused(self, 4);
+        };
+        match block_edits::put_in(nodes, self.ranges, range) {
+            Edited::Refused => refused(self, 1),
+            Edited::Full => refused(self, 3),
+            Edited::Done(fresh, count) => {
+                let bytes = self.bytes.plus(range.size());
+                Changed {
+                    land: self.close(count, bytes),
+                    answer: 0,
+                    range: fresh,
+                }
+            }
+        }
+    }
+
+    // Makes a range free that has no free byte. The range returned is the isolated one that then contains it.
+    pub fn insert(self, nodes: &mut [u64], range: Range) -> Changed
+        ensures { λ r. ⌜ (r ≡ changed (inserted self (now (nodes .entry)) range)) × (now (nodes .exit) ≡ inserted self (now (nodes .entry)) range .words) ⌝ }
+    {
+        match self.look(nodes, Aim::Nothing) {
+            Look::BadSetUp => refused(self, 5),
+            Look::Damaged => refused(self, 6),
+            Look::Sound(_) => self.insert_at(nodes, range),
+        }
+    }
+}
