@@ -1,0 +1,3 @@
+pub mod FlushKeeps
+pub mod Ways
+pub mod FlushAnswers
