@@ -1,8 +1,8 @@
--- `list_cases::play_all` is safe and ends. The measure is the number of turns that are left.
+-- `land_cases::play_all` is safe and ends. The measure is the number of turns that are left.
 -- Assumes nothing.
 use borrow.Author.Needs.{needs}
-use Rattle.list_cases.proofs.play_all.Statement.{statement}
-use Rattle.list_cases.proofs.play_all.Tie as tie
+use Rattle.land_cases.proofs.play_all.Statement.{statement}
+use Rattle.land_cases.proofs.play_all.Tie as tie
 
 abbrev Inv-loop : tie.InvT-loop
 Inv-loop text at₀ turns₀ at turns = Unit {0}

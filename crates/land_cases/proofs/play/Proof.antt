@@ -1,11 +1,11 @@
--- `list_cases::play` is safe: the words that it lends are at most 64.
+-- `land_cases::play` is safe: the words that it lends are at most 64.
 -- Assumes nothing.
 use mathlib.Core.Path.{sym}
 use native.Mathlib.Omega.{arith}
 use lib.Seq.{length-take-le}
 use borrow.Author.Needs.{needs}
-use Rattle.list_cases.proofs.play.Statement.{statement}
-use Rattle.list_cases.proofs.play.Tie as tie
+use Rattle.land_cases.proofs.play.Statement.{statement}
+use Rattle.land_cases.proofs.play.Tie as tie
 
 slice-aggregate-fill : tie.Need-slice-aggregate-fill
 slice-aggregate-fill c = search needs

@@ -1,10 +1,10 @@
--- `list_cases::show_words` is safe and ends. The measure is what is left of the words.
+-- `land_cases::show_words` is safe and ends. The measure is what is left of the words.
 -- Assumes nothing.
 use Prim.Native.Nat.{_≤_, _-_}
 use lib.ListN.{length}
 use borrow.Author.Needs.{needs}
-use Rattle.list_cases.proofs.show_words.Statement.{statement}
-use Rattle.list_cases.proofs.show_words.Tie as tie
+use Rattle.land_cases.proofs.show_words.Statement.{statement}
+use Rattle.land_cases.proofs.show_words.Tie as tie
 
 abbrev Inv-loop : tie.InvT-loop
 Inv-loop words i₀ i = i ≤ length words

@@ -1,8 +1,14 @@
-// Plays records of standard input on the list land, each with its own handle and words, and prints what each call returns.
-// It assumes the contracts of libc's read and write, and nothing else.
+// Plays records of standard input on the list land and the block land, each with its own handle and words, and prints what
+// each call returns. It assumes the contracts of libc's read and write, and nothing else.
 //
 // A record is OP base limit align head ranges bytes NWORDS w0 .. A B C. OP: 0 open, 1 insert, 2 delete, 3 find first,
-// 4 find last, 5 find largest, 6 walk. A find's mode is B: 0 none, 1 low, 2 high, 3 entire. A number that cannot be read ends the program.
+// 4 find last, 5 find largest, 6 walk on a list land; 10 to 16 the same on a block land, whose head is not read, and
+// is printed as 0. A find's mode is B: 0 none, 1 low, 2 high, 3 entire.
+//
+// A flush is OP 20: 20, the list's handle, NWORDS w0 .., then 0, the block land's handle, NNODES n0 .. with both handles in
+// the form above. A number that cannot be read ends the program. It reads 262,144 bytes at most.
+use block_land::BlockLand;
+use flush::Flushed;
 use list_land::Changed;
 use list_land::Found;
 use list_land::ListLand;
@@ -132,6 +138,32 @@ fn handle(front: &[u64; 8]) -> ListLand {
     }
 }
 
+fn block_handle(front: &[u64; 8]) -> BlockLand {
+    BlockLand {
+        base: Addr::new(front[1]),
+        limit: Addr::new(front[2]),
+        align: Align::new(front[3]),
+        ranges: front[5],
+        bytes: Size::new(front[6]),
+    }
+}
+
+// A block land's handle as it is printed, with head 0.
+fn with_head(h: BlockLand) -> ListLand {
+    let base = h.base;
+    let limit = h.limit;
+    let align = h.align;
+    let bytes = h.bytes;
+    ListLand {
+        base,
+        limit,
+        align,
+        head: Addr::new(0),
+        ranges: h.ranges,
+        bytes,
+    }
+}
+
 fn of_change(c: Changed) -> Found {
     let land = c.land;
     let range = c.range;
@@ -154,7 +186,38 @@ fn open(h: ListLand, words: &[u64]) -> Found {
     }
 }
 
-// One call of the land.
+fn of_block_change(c: block_land::Changed) -> Found {
+    let range = c.range;
+    Found {
+        land: with_head(c.land),
+        answer: c.answer,
+        range,
+        old: Range::none(),
+    }
+}
+
+fn of_block_find(f: block_land::Found) -> Found {
+    let range = f.range;
+    let old = f.old;
+    Found {
+        land: with_head(f.land),
+        answer: f.answer,
+        range,
+        old,
+    }
+}
+
+fn open_block(h: BlockLand, nodes: &mut [u64]) -> Found {
+    let o = BlockLand::open(h.base, h.limit, h.align, nodes);
+    Found {
+        land: with_head(o.land),
+        answer: o.answer,
+        range: Range::none(),
+        old: Range::none(),
+    }
+}
+
+// One call of the list land.
 fn call(op: u64, land: ListLand, words: &mut [u64], a: u64, b: u64) -> Found {
     match op {
         0 => open(land, words),
@@ -167,12 +230,21 @@ fn call(op: u64, land: ListLand, words: &mut [u64], a: u64, b: u64) -> Found {
     }
 }
 
-// A space and a number. Most are 0, and a short way for it keeps `rt try` within its steps.
-fn show(n: u64) {
-    if n == 0 {
-        io::write_all(1, b" 0");
-        return;
+// One call of the block land.
+fn call_block(op: u64, land: BlockLand, nodes: &mut [u64], a: u64, b: u64) -> Found {
+    match op {
+        10 => open_block(land, nodes),
+        11 => of_block_change(land.insert(nodes, Range::new(Addr::new(a), Addr::new(b)))),
+        12 => of_block_change(land.delete(nodes, Range::new(Addr::new(a), Addr::new(b)))),
+        13 => of_block_find(land.find_first(nodes, Size::new(a), mode_of(b))),
+        14 => of_block_find(land.find_last(nodes, Size::new(a), mode_of(b))),
+        15 => of_block_find(land.find_largest(nodes, Size::new(a), mode_of(b))),
+        _ => of_block_change(land.walk(nodes, Addr::new(a))),
     }
+}
+
+// A space and a number.
+fn show(n: u64) {
     io::write_all(1, b" ");
     io::print_decimal(1, n);
 }
@@ -209,10 +281,64 @@ fn show_line(found: Found, words: &[u64]) {
     io::write_all(1, b"\n");
 }
 
+// A line for a flush: the answer, the number moved, the stop, the two handles, the node words and the arena words.
+fn show_flush(f: Flushed, words: &[u64], nodes: &[u64]) {
+    io::print_decimal(1, f.answer);
+    show(f.moved);
+    show(f.stop);
+    show_land(f.list);
+    show_land(with_head(f.block));
+    show_words(nodes);
+    show_words(words);
+    io::write_all(1, b"\n");
+}
+
 // The call of a record, and its line.
 fn play_call(front: &[u64; 8], words: &mut [u64], args: &[u64; 3]) {
-    let found = call(front[0], handle(front), words, args[0], args[1]);
+    if front[0] < 10 {
+        let found = call(front[0], handle(front), words, args[0], args[1]);
+        show_line(found, words);
+        return;
+    }
+    let found = call_block(front[0], block_handle(front), words, args[0], args[1]);
     show_line(found, words);
+}
+
+// The rest of a flush, from its node words on.
+fn play_nodes(
+    text: &[u8],
+    from: usize,
+    front: &[u64; 8],
+    words: &[u64],
+    second: &[u64; 8],
+    nodes: &mut [u64],
+) -> Place {
+    let p = fill(text, from, nodes);
+    if !p.good {
+        return p;
+    }
+    let f = flush::flush(handle(front), words, block_handle(second), nodes);
+    show_flush(f, words, nodes);
+    p
+}
+
+// The rest of a flush, from the block land's numbers on.
+fn play_flush(text: &[u8], from: usize, front: &[u64; 8], words: &[u64]) -> Place {
+    let mut second = [0u64; 8];
+    let mut nodes = [0u64; 64];
+    let p = fill(text, from, &mut second);
+    if !p.good {
+        return p;
+    }
+    let n = second[7];
+    if 64 < n {
+        return Place {
+            good: false,
+            at: p.at,
+        };
+    }
+    let k = n as usize;
+    play_nodes(text, p.at, front, words, &second, &mut nodes[..k])
 }
 
 // The rest of a record, from its words on.
@@ -220,6 +346,9 @@ fn play_words(text: &[u8], from: usize, front: &[u64; 8], words: &mut [u64]) -> 
     let p = fill(text, from, words);
     if !p.good {
         return p;
+    }
+    if front[0] == 20 {
+        return play_flush(text, p.at, front, words);
     }
     let mut args = [0u64; 3];
     let q = fill(text, p.at, &mut args);
@@ -264,7 +393,7 @@ fn play_all(text: &[u8]) {
 }
 
 fn main() {
-    let mut text = io::large_buffer();
+    let mut text = [0u8; 262144];
     let n = io::read_full(0, &mut text);
     play_all(&text[..n]);
 }

@@ -1,12 +1,12 @@
--- `list_cases::fill` is safe and ends. The measure is what is left of the numbers asked for.
+-- `land_cases::fill` is safe and ends. The measure is what is left of the numbers asked for.
 -- Assumes nothing.
 use mathlib.Core.Path.{_≡_}
 use Prim.Native.Nat.{_≤_, _-_}
 use native.Mathlib.Omega.{arith}
 use lib.ListN.{length, length-set}
 use borrow.Author.Needs.{needs}
-use Rattle.list_cases.proofs.fill.Statement.{statement}
-use Rattle.list_cases.proofs.fill.Tie as tie
+use Rattle.land_cases.proofs.fill.Statement.{statement}
+use Rattle.land_cases.proofs.fill.Tie as tie
 
 abbrev Inv-loop : tie.InvT-loop
 Inv-loop text from out₀ at₀ i₀ out at i = (i ≤ length out) × (length out ≡ length out₀)
