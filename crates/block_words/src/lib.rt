@@ -155,8 +155,9 @@ pub fn survey(arena: Arena, words: &[u64], ranges: u64, bytes: Size, aim: Aim) -
         return Verdict::Damaged;
     }
     let n = ranges as usize;
+    let found = scan(arena, words, n, bytes, aim);
     if !is_zero(words, n) {
         return Verdict::Damaged;
     }
-    scan(arena, words, n, bytes, aim)
+    found
 }

@@ -1,0 +1,186 @@
+#!/usr/bin/env python3
+"""Tries every must-fail edit: crates/NAME/must-fail/*.edit, each a wrong program that the prover must refuse.
+
+Run from the top of the repository after `rt check`: python3 .ci/edits.py [CRATE...]. It works on copies of the repository,
+one for each processor, and leaves the repository alone.
+
+An edit is applied to its crate in a copy, and the crate is checked over the incremental folder of the crate as it stands:
+what the edit does not reach is not checked again. The edit passes if the prover refuses the crate because a fact fails.
+It fails if the crate is still proved, if it does not reach the prover, if an 'old:' text is not in its file exactly once,
+or if the first error is of a name: such a refusal says nothing about the program. Before the first and after the last edit
+the crate as it stands must be proved in the copy.
+
+The last line is 'N passed, M failed'; the exit status is 0 exactly if M is 0.
+"""
+
+import os
+import queue
+import re
+import shutil
+import subprocess
+import sys
+import tempfile
+import threading
+import time
+
+# A first error with one of these words is of a name or a form, not of a fact.
+OF_NAMES = re.compile(r"not in scope|has no `Need-|no `Tie`|has no field|takes \d+ arguments|is not declared")
+
+
+class BadEdit(Exception):
+    pass
+
+
+def crates():
+    with open("crates.txt", encoding="utf-8") as file:
+        lines = [line.split("#")[0] for line in file]
+    return [line.split(":")[0].strip() for line in lines if ":" in line]
+
+
+def edits_of(crate):
+    folder = os.path.join("crates", crate, "must-fail")
+    if not os.path.isdir(folder):
+        return []
+    return sorted(os.path.join(folder, name) for name in os.listdir(folder) if name.endswith(".edit"))
+
+
+def edited(copy, crate, edit):
+    """The files that an edit changes, as they were and as they are to be."""
+    before, after, place, old = {}, {}, None, None
+    with open(edit, encoding="utf-8") as file:
+        lines = file.read().split("\n")
+    for line in lines:
+        if line.startswith("file: "):
+            name = line[len("file: "):]
+            place = os.path.normpath(os.path.join(copy, "crates", crate, name))
+            if name.split("/")[0] not in ("src", "specs", "proofs") or ".." in name or not os.path.isfile(place):
+                raise BadEdit(f"no file {name} of the crate")
+            if place not in before:
+                with open(place, encoding="utf-8") as file:
+                    before[place] = after[place] = file.read()
+        elif line.startswith("old: "):
+            old = line[len("old: "):]
+        elif line.startswith("new:"):
+            if place is None or not old:
+                raise BadEdit("a 'new:' line without a file or an 'old:' line")
+            if after[place].count(old) != 1:
+                raise BadEdit(f"an 'old:' text is in its file {after[place].count(old)} times")
+            after[place] = after[place].replace(old, line[len("new:"):].removeprefix(" "))
+            old = None
+    if not after:
+        raise BadEdit("it has no 'old:' and 'new:' pair")
+    return before, after
+
+
+def write(files):
+    for place, text in files.items():
+        with open(place, "w", encoding="utf-8") as file:
+            file.write(text)
+
+
+def check(copy, crate):
+    """The exit status, the prover's last word, and the first error, of a crate in a copy."""
+    ran = subprocess.run(["rt", "dev", crate], cwd=copy, stdin=subprocess.DEVNULL, capture_output=True, text=True)
+    lines = (ran.stdout + ran.stderr).split("\n")
+    words = [line for line in lines if line.startswith("logic=")]
+    errors = [line for line in lines if ": error" in line or re.match(r"note: \S+:\d+:\d+: it is not proved", line)]
+    return ran.returncode, words[-1] if words else "", errors[0].replace(copy + "/", "") if errors else ""
+
+
+def proved(copy, crate):
+    status, word, _ = check(copy, crate)
+    return status == 0 and word.startswith("logic=proved")
+
+
+def judge(copy, crate, edit):
+    """What is wrong with an edit, or None, and where it is refused."""
+    try:
+        before, after = edited(copy, crate, edit)
+    except BadEdit as bad:
+        return str(bad), ""
+    try:
+        write(after)
+        status, word, error = check(copy, crate)
+    finally:
+        write(before)
+    if status == 0:
+        return "NOT REFUSED: the crate is still proved", ""
+    if status != 1 or not word.startswith("logic=not-proved"):
+        return f"it did not reach the prover: {error[:300]}", ""
+    if OF_NAMES.search(error):
+        return f"refused for a name, not for a fact: {error[:300]}", ""
+    return None, error.split(": error")[0].split(": it is not proved")[0]
+
+
+def try_crate(copy, crate, say):
+    """Tries the edits of a crate in a copy; gives how many passed and how many failed."""
+    passed = failed = 0
+    if not proved(copy, crate):
+        say(f"edits of {crate}: FAILED: the crate as it stands is not proved in the copy")
+        return 0, 1
+    for edit in edits_of(crate):
+        began = time.time()
+        wrong, where = judge(copy, crate, edit)
+        name = f"{crate}/{os.path.basename(edit).removesuffix('.edit')}"
+        if wrong is None:
+            passed += 1
+            say(f"edit {name}: refused at {where} ({time.time() - began:.0f} s)")
+        else:
+            failed += 1
+            say(f"edit {name}: FAILED: {wrong}")
+    if not proved(copy, crate):
+        say(f"edits of {crate}: FAILED: the crate is not proved once its edits are undone")
+        failed += 1
+    return passed, failed
+
+
+def copy_to(folder):
+    """A copy of the crates and of what was proved of them."""
+    shutil.copy("crates.txt", folder)
+    shutil.copytree("crates", os.path.join(folder, "crates"))
+    for part in ("rlib", "stamp"):
+        shutil.copytree(os.path.join("target", part), os.path.join(folder, "target", part), symlinks=True)
+    os.makedirs(os.path.join(folder, "target", "log"))
+
+
+def main():
+    wanted = sys.argv[1:] or crates()
+    todo, totals, lock = queue.Queue(), [0, 0], threading.Lock()
+    for crate in sorted(wanted, key=lambda name: -len(edits_of(name))):
+        if edits_of(crate):
+            todo.put(crate)
+
+    def say(text):
+        with lock:
+            print(text, flush=True)
+
+    def work(folder):
+        copy_to(folder)
+        while True:
+            try:
+                crate = todo.get_nowait()
+            except queue.Empty:
+                return
+            passed, failed = try_crate(folder, crate, say)
+            with lock:
+                totals[0] += passed
+                totals[1] += failed
+
+    with tempfile.TemporaryDirectory() as room:
+        workers = []
+        for number in range(min(os.cpu_count() or 1, 4)):
+            folder = os.path.join(room, str(number))
+            os.mkdir(folder)
+            workers.append(threading.Thread(target=work, args=(folder,)))
+        for worker in workers:
+            worker.start()
+        for worker in workers:
+            worker.join()
+    if totals == [0, 0]:
+        totals[1] = 1
+    print(f"{totals[0]} passed, {totals[1]} failed")
+    return 1 if totals[1] else 0
+
+
+if __name__ == "__main__":
+    sys.exit(main())
