@@ -1,6 +1,6 @@
 -- The ways out of the public calls: each answer with what it hands back. Assumes nothing.
 use Prim.Native.Nat.{ℕ}
-use mathlib.Core.Bool.{true, false}
+use mathlib.Core.Bool.{Bool, true, false, cond}
 use mathlib.Core.List.{List}
 use mathlib.Core.Path.{_≡_, refl, _∙_}
 use native.Mathlib.Omega.{arith}
@@ -24,33 +24,41 @@ use Rattle.list_land.specs.declared.Look.{Look}
 use Rattle.list_land.proofs.LayoutLaws.{reads-5, reads-6}
 
 -- WHAT A LOOK SAYS
-module _ (h : ListLand) (ws : List ℕ) (aim : Aim) (v : Look) (e : v ≡ lookOf h ws aim) where
-  saw-bad : v ≡ Look.BadSetUp → setUp h ws ≡ false
-  unfolding lookOf
-  saw-bad f =
-      by (setUp h ws)
-      (λ a. by (sound h ws)
-      (λ b. let q : v ≡ Look.Sound (kept-of aim (walkOf h ws .met)) = rw (a, b) at e in let z : _≡_ {A = ℕ} 0 1 = cc in absurd (omega arith))
-      (λ b. let q : v ≡ Look.Damaged = rw (a, b) at e in let z : _≡_ {A = ℕ} 0 1 = cc in absurd (omega arith)))
-      (λ a. a)
+abbrev looked : Bool → Bool → Spot → Look
+looked g s x = cond g (cond s (Look.Sound x) Look.Damaged) Look.BadSetUp
 
-  saw-damaged : v ≡ Look.Damaged → (setUp h ws ≡ true) × (sound h ws ≡ false)
-  unfolding lookOf
-  saw-damaged f =
-      by (setUp h ws)
-      (λ a. by (sound h ws)
-      (λ b. let q : v ≡ Look.Sound (kept-of aim (walkOf h ws .met)) = rw (a, b) at e in let z : _≡_ {A = ℕ} 0 1 = cc in absurd (omega arith))
-      (λ b. (a, b)))
-      (λ a. let q : v ≡ Look.BadSetUp = rw a at e in let z : _≡_ {A = ℕ} 0 1 = cc in absurd (omega arith))
+bad : (g s : Bool) (x : Spot) (v : Look) → v ≡ looked g s x → v ≡ Look.BadSetUp → g ≡ false
+bad false s x v e f = refl
+bad true false x v e f = let z : _≡_ {A = ℕ} 0 1 = cc in absurd (omega arith)
+bad true true x v e f = let z : _≡_ {A = ℕ} 0 1 = cc in absurd (omega arith)
+
+damaged : (g s : Bool) (x : Spot) (v : Look) → v ≡ looked g s x → v ≡ Look.Damaged → (g ≡ true) × (s ≡ false)
+damaged false s x v e f = let z : _≡_ {A = ℕ} 0 1 = cc in absurd (omega arith)
+damaged true false x v e f = (refl, refl)
+damaged true true x v e f = let z : _≡_ {A = ℕ} 0 1 = cc in absurd (omega arith)
+
+whole : (g s : Bool) (x : Spot) (v : Look) → v ≡ looked g s x → (r : Spot) → v ≡ Look.Sound r → (g ≡ true) × (s ≡ true) × (r ≡ x)
+whole false s x v e r f = let z : _≡_ {A = ℕ} 0 1 = cc in absurd (omega arith)
+whole true false x v e r f = let z : _≡_ {A = ℕ} 0 1 = cc in absurd (omega arith)
+whole true true x v e r f = (refl, refl, cc)
+
+module _ (h : ListLand) (ws : List ℕ) (aim : Aim) (v : Look) (e : v ≡ lookOf h ws aim) where
+  abbrev kept : Spot
+  kept = kept-of aim (walkOf h ws .met)
 
   pub saw-sound : (s : Spot) → v ≡ Look.Sound s → Sought h ws aim s
   unfolding lookOf
-  saw-sound s f =
-      by (setUp h ws)
-      (λ a. by (sound h ws)
-      (λ b. let q : v ≡ Look.Sound (kept-of aim (walkOf h ws .met)) = rw (a, b) at e in record { good = a; whole = b; kept = cc })
-      (λ b. let q : v ≡ Look.Damaged = rw (a, b) at e in let z : _≡_ {A = ℕ} 0 1 = cc in absurd (omega arith)))
-      (λ a. let q : v ≡ Look.BadSetUp = rw a at e in let z : _≡_ {A = ℕ} 0 1 = cc in absurd (omega arith))
+  saw-sound s f = let t = whole (setUp h ws) (sound h ws) kept v e s f in record { good = t .0; whole = t .1; kept = t .2 }
+
+  -- 5 and 6, of any call
+  module _ (c : Call) (d : LandDone) (ed : d ≡ land-call layout c h ws) where
+    pub answers-5 : v ≡ Look.BadSetUp → d ≡ record { out = refused 5; handle = h; words = ws }
+    unfolding lookOf
+    answers-5 f = ed ∙ call-fault layout c h ws 5 (reads-5 h ws (bad (setUp h ws) (sound h ws) kept v e f))
+
+    pub answers-6 : v ≡ Look.Damaged → d ≡ record { out = refused 6; handle = h; words = ws }
+    unfolding lookOf
+    answers-6 f = let s = damaged (setUp h ws) (sound h ws) kept v e f in ed ∙ call-fault layout c h ws 6 (reads-6 h ws (s .0) (s .1))
 
 -- the number of a look is the number that the handle and the words are read with
 pub look-number : (h : ListLand) (ws : List ℕ) (aim : Aim) → lookNumber (lookOf h ws aim) ≡ fault-number (readOf h ws)
@@ -82,11 +90,3 @@ module _ (h : ListLand) (ws : List ℕ) (d : LandDone) (n : ℕ) (e : d ≡ reco
 
   pub refuse-find : (w : Found) → w ≡ foundNone h n → (w ≡ foundOf d) × (ws ≡ d .words)
   refuse-find w k = (rw e k, rw e)
-
--- 5 and 6, of any call
-module _ (h : ListLand) (ws : List ℕ) (aim : Aim) (v : Look) (e : v ≡ lookOf h ws aim) (c : Call) (d : LandDone) (ed : d ≡ land-call layout c h ws) where
-  pub answers-5 : v ≡ Look.BadSetUp → d ≡ record { out = refused 5; handle = h; words = ws }
-  answers-5 f = ed ∙ call-fault layout c h ws 5 (reads-5 h ws (saw-bad h ws aim v e f))
-
-  pub answers-6 : v ≡ Look.Damaged → d ≡ record { out = refused 6; handle = h; words = ws }
-  answers-6 f = let s = saw-damaged h ws aim v e f in ed ∙ call-fault layout c h ws 6 (reads-6 h ws (s .0) (s .1))

@@ -1,16 +1,15 @@
 -- The ways out of a delete in a sound list: 4, 1, and the range taken out. Assumes nothing.
 use Prim.Native.Nat.{ℕ, suc, _≤_, _<_}
 use mathlib.Core.Bool.{Bool, true, false}
-use mathlib.Core.List.{List, [], _∷_, append-nil}
-use mathlib.Core.Option.{Option, none, some}
+use mathlib.Core.List.{List, [], _∷_, _++_, append-nil}
+use mathlib.Core.Option.{none, some}
 use mathlib.Core.Path.{_≡_, refl, sym, ap, _∙_}
 use native.Mathlib.Omega.{arith}
 use lib.Dec.{eqb, ltb}
 use lib.ListN.{length}
-use borrow.Author.Tests.{ne-eqb, ltb-true, ltb-false, lt-leb, le-leb}
+use borrow.Author.Tests.{ltb-true, ltb-false, lt-leb, le-leb}
 use Rattle.units.specs.declared.Range as units
 use Rattle.units.proofs.Alignments.{multiple-8}
-use Rattle.units.proofs.Tests.{clash}
 use Rattle.model.specs.Calls.{delete, good-range}
 use Rattle.model.specs.Lists.{holds, holder, delete-from}
 use Rattle.model.specs.Marks.{Range, rng, struct}
@@ -20,7 +19,7 @@ use Rattle.model.proofs.Requests.{range-rules}
 use Rattle.model.proofs.Reaching.{reach, reach-none, reach-some}
 use Rattle.model.proofs.Outcomes.{call-refused, call-accepted}
 use Rattle.list_words.specs.declared.Spot.{Spot}
-use Rattle.list_words.proofs.Keeping.{At, Placed, kept-reach}
+use Rattle.list_words.proofs.Keeping.{At, Placed, none-there, one-there, kept-reach}
 use Rattle.list_land.specs.Calls.{deleted, changed, refusedBy}
 use Rattle.list_land.specs.Cuts.{Cutting, cutLand, cutWords}
 use Rattle.list_land.specs.Layout.{base, limit, align, arenaOf, walkOf, closed, layout}
@@ -55,11 +54,8 @@ module _ (h : ListLand) (ws : List ℕ) (y : units.Range) (s : Spot) (k : Sought
     rules = range-rules (arenaOf h) b l g
 
     -- the first range that reaches the limit, or none
-    abbrev Stood : Type 0
-    Stood = (o : Option Range) × (reach l met ≡ o) × Placed met o s
-
-    stood : Stood
-    stood = (reach l met, refl, rw (← k .kept) at (kept-reach (base h) (limit h) met (fit .place .arena .above) (fit .apart) (y .limit)))
+    stood : Placed met (reach l met) s
+    stood = rw (← k .kept) at (kept-reach (base h) (limit h) met (fit .place .arena .above) (fit .apart) (y .limit))
 
     no-1 : holds b l met ≡ false → (w : Changed) → w ≡ refusedBy h 1 → (w ≡ changed (deleted h ws y)) × (ws ≡ deleted h ws y .words)
     no-1 o w e =
@@ -68,13 +64,9 @@ module _ (h : ListLand) (ws : List ℕ) (y : units.Range) (s : Spot) (k : Sought
     -- no range reaches it
     pub delete-behind : (r : Bool) → r ≡ eqb (s .here .base .0) 0 → r ≡ true → (w : Changed) → w ≡ refusedBy h 1 →
         (w ≡ changed (deleted h ws y)) × (ws ≡ deleted h ws y .words)
-    delete-behind r er t w e = no-1 (go (stood .0) (stood .1) (stood .2)) w e
-      where
-        go : (o : Option Range) → reach l met ≡ o → Placed met o s → holds b l met ≡ false
-        go none f p =
-            rw (← append-nil met) (holds-below b l met [] (reach-none l (base h) (limit h) met (fit .apart) f))
-        go (some q) f p =
-            clash (sym er ∙ t) (rw (p .here) (ne-eqb (q .base) 0 (λ z. omega (arith, p .above))))
+    delete-behind r er t w e =
+        let f = none-there met (reach l met) s stood r er t in
+        no-1 (rw (← append-nil met) (holds-below b l met [] (reach-none l (base h) (limit h) met (fit .apart) f))) w e
 
     module _ (r : Bool) (er : r ≡ eqb (s .here .base .0) 0) (t : r ≡ false) where
       -- the range that reaches it
@@ -85,13 +77,12 @@ module _ (h : ListLand) (ws : List ℕ) (y : units.Range) (s : Spot) (k : Sought
         reaches : l ≤ at-range .limit
 
       reached : Reached
-      reached = go (stood .0) (stood .1) (stood .2)
-        where
-          go : (o : Option Range) → reach l met ≡ o → Placed met o s → Reached
-          go none f p = clash {t = eqb (s .here .base .0) 0} (rw (p .here)) (sym er ∙ t)
-          go (some q) f p =
-              let z = reach-some l (base h) (limit h) (p .front) q (p .rest) (rw (p .split) at (fit .apart)) (rw (p .split) at f) in
-              record { at-range = q; at = p; below = z .0; reaches = z .1 }
+      reached =
+          let c = one-there met (reach l met) s stood r er t in
+          let p = c .at in
+          let f : reach l (p .front ++ c .range ∷ p .rest) ≡ some (c .range) = ap (reach l) (sym (p .split)) ∙ c .is in
+          let z = reach-some l (base h) (limit h) (p .front) (c .range) (p .rest) (rw (p .split) at (fit .apart)) f in
+          record { at-range = c .range; at = p; below = z .0; reaches = z .1 }
 
       here-base : s .here .base .0 ≡ reached .at-range .base
       here-base = ap (λ (v : units.Range). v .base .0) (reached .at .here)

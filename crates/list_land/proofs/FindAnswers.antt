@@ -2,14 +2,13 @@
 use Prim.Native.Nat.{ℕ, _≤_, _<_}
 use mathlib.Core.Bool.{Bool, true, false}
 use mathlib.Core.List.{List, [], _∷_}
-use mathlib.Core.Option.{Option, none, some}
+use mathlib.Core.Option.{some}
 use mathlib.Core.Path.{_≡_, refl, sym, ap, ap₂, _∙_}
 use native.Mathlib.Omega.{arith}
 use lib.Dec.{eqb}
 use lib.ListN.{length}
 use types.Run.{OneOf}
 use denote.Enum.Declared.{tagOf}
-use borrow.Author.Tests.{ne-eqb}
 use Rattle.units.specs.Rules.{findSize}
 use Rattle.units.specs.declared.Mode.{Mode}
 use Rattle.units.specs.declared.Range as units
@@ -19,7 +18,6 @@ use Rattle.units.specs.declared.rules.Arena.{Arena}
 use Rattle.units.specs.declared.aims.Aim.{Aim}
 use Rattle.units.proofs.Alignments.{multiple-8}
 use Rattle.units.proofs.Mode as mode-type
-use Rattle.units.proofs.Tests.{clash}
 use Rattle.model.specs.Calls.{find, good-size}
 use Rattle.model.specs.Lists.{delete-from}
 use Rattle.model.specs.Marks.{Range, size, struct, plain}
@@ -32,7 +30,7 @@ use Rattle.model.proofs.Finding.{find-none, find-takes}
 use Rattle.model.proofs.Outcomes.{call-refused, call-accepted}
 use Rattle.finds.specs.Parts.{Within}
 use Rattle.list_words.specs.declared.Spot.{Spot}
-use Rattle.list_words.proofs.Keeping.{At, Placed, kept-find}
+use Rattle.list_words.proofs.Keeping.{At, Placed, none-there, one-there, kept-find}
 use Rattle.list_words.proofs.Laid.{lay-laid}
 use Rattle.list_land.specs.Calls.{found, foundOf, foundNone}
 use Rattle.list_land.specs.Cuts.{Cutting, cutLand, cutWords}
@@ -77,13 +75,10 @@ module _ (h : ListLand) (ws : List ℕ) (w : Which) (n : Size) (mode : Mode) (s 
     chosen = rw (← k .kept) at (kept-find (base h) (limit h) met (fit .place .arena .above) (fit .apart) w (record { 0 = want }))
 
     pub find-2 : (r : Bool) → r ≡ eqb (s .here .base .0) 0 → r ≡ true → (v : Found) → v ≡ foundNone h 2 → Gives v ws
-    find-2 r er t v e = go (choose w want met) refl chosen
-      where
-        go : (o : Option Range) → choose w want met ≡ o → Placed met o s → Gives v ws
-        go none f p =
-            refuse-find h ws (found h ws w (n .0) mode) 2
-            (is-find h ws w (n .0) mode ∙ call-refused layout (find w (n .0) mode) h ws (walkOf h ws .met) (held h ws (k .good) (k .whole)) 2 refl (rw (g, f))) v e
-        go (some q) f p = clash (sym er ∙ t) (rw (p .here) (ne-eqb (q .base) 0 (λ z. omega (arith, p .above))))
+    find-2 r er t v e =
+        let o = none-there met (choose w want met) s chosen r er t in
+        refuse-find h ws (found h ws w (n .0) mode) 2
+        (is-find h ws w (n .0) mode ∙ call-refused layout (find w (n .0) mode) h ws met (held h ws (k .good) (k .whole)) 2 refl (rw (g, o))) v e
 
     module _ (r : Bool) (er : r ≡ eqb (s .here .base .0) 0) (t : r ≡ false) where
       record Choice : Type 0 where
@@ -94,13 +89,11 @@ module _ (h : ListLand) (ws : List ℕ) (w : Which) (n : Size) (mode : Mode) (s 
         proper : range .base < range .limit
 
       choice : Choice
-      choice = go (choose w want met) refl chosen
-        where
-          go : (o : Option Range) → choose w want met ≡ o → Placed met o s → Choice
-          go none f p = clash {t = eqb (s .here .base .0) 0} (rw (p .here)) (sym er ∙ t)
-          go (some q) f p =
-              let pr = apart-rest (base h) (limit h) (p .front) q (p .rest) (rw (p .split) at (fit .apart)) in
-              record { range = q; at = p; is = f; long = choose-mem w want met q f .1; proper = pr .1 }
+      choice =
+          let c = one-there met (choose w want met) s chosen r er t in
+          let p = c .at in
+          let pr = apart-rest (base h) (limit h) (p .front) (c .range) (p .rest) (rw (p .split) at (fit .apart)) in
+          record { range = c .range; at = p; is = c .is; long = choose-mem w want met (c .range) (c .is) .1; proper = pr .1 }
 
       abbrev q : Range
       q = choice .range

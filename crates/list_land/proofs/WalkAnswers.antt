@@ -2,22 +2,19 @@
 use Prim.Native.Nat.{ℕ}
 use mathlib.Core.Bool.{Bool, true, false}
 use mathlib.Core.List.{List}
-use mathlib.Core.Option.{Option, none, some}
 use mathlib.Core.Path.{_≡_, refl, sym, _∙_}
-use native.Mathlib.Omega.{arith}
 use lib.Dec.{eqb}
-use borrow.Author.Tests.{ne-eqb}
 use Rattle.units.specs.declared.Addr.{Addr}
 use Rattle.units.specs.declared.aims.Aim.{Aim}
-use Rattle.units.proofs.Tests.{clash}
 use Rattle.model.specs.Calls.{walk}
 use Rattle.model.specs.Marks.{Range, rng}
 use Rattle.model.specs.Steps.{next-from}
+use Rattle.model.proofs.Finding.{walk-visits}
 use Rattle.model.proofs.Outcomes.{call-refused, call-accepted}
 use Rattle.list_words.specs.declared.Spot.{Spot}
-use Rattle.list_words.proofs.Keeping.{Placed, kept-from}
+use Rattle.list_words.proofs.Keeping.{Placed, none-there, one-there, kept-from}
 use Rattle.list_land.specs.Calls.{walked, changed, refusedBy}
-use Rattle.list_land.specs.Layout.{base, limit, walkOf, layout}
+use Rattle.list_land.specs.Layout.{base, limit, arenaOf, walkOf, layout}
 use Rattle.list_land.specs.Parts.{lookOf, Sought}
 use Rattle.list_land.specs.declared.Changed.{Changed}
 use Rattle.list_land.specs.declared.ListLand.{ListLand}
@@ -48,23 +45,19 @@ module _ (h : ListLand) (ws : List ℕ) (x : Addr) (v : Look) (e : v ≡ lookOf 
   met-at = rw (← found .kept) at (kept-from (base h) (limit h) met (fit .place .arena .above) (fit .apart) x)
 
   pub walk-2 : r ≡ true → (w : Changed) → w ≡ refusedBy h 2 → w ≡ changed (walked h ws (x .0))
-  walk-2 t w k = go (next-from (x .0) met) refl met-at
-    where
-      go : (o : Option Range) → next-from (x .0) met ≡ o → Placed met o s → w ≡ changed (walked h ws (x .0))
-      go none g p =
-          refuse-change h ws (walked h ws (x .0)) 2
-          (is-walk h ws (x .0) ∙ call-refused layout (walk (x .0)) h ws (walkOf h ws .met) (held h ws (found .good) (found .whole)) 2 refl (rw g)) w k .0
-      go (some q) g p = clash (sym er ∙ t) (rw (p .here) (ne-eqb (q .base) 0 (λ z. omega (arith, p .above))))
+  walk-2 t w k =
+      let o = none-there met (next-from (x .0) met) s met-at r er t in
+      refuse-change h ws (walked h ws (x .0)) 2
+      (is-walk h ws (x .0) ∙ call-refused layout (walk (x .0)) h ws met (held h ws (found .good) (found .whole)) 2 refl (rw o)) w k .0
 
   pub walk-0 : r ≡ false → record { land = h; answer = 0; range = s .here } ≡ changed (walked h ws (x .0))
-  walk-0 t = go (next-from (x .0) met) refl met-at
-    where
-      go : (o : Option Range) → next-from (x .0) met ≡ o → Placed met o s → record { land = h; answer = 0; range = s .here } ≡ changed (walked h ws (x .0))
-      go none g p = clash {t = eqb (s .here .base .0) 0} (rw (p .here)) (sym er ∙ t)
-      go (some q) g p =
-          let d = is-walk h ws (x .0) ∙ call-accepted layout (walk (x .0)) h ws (walkOf h ws .met) (held h ws (found .good) (found .whole)) q (rng 0 0) met (rw g) in
-          let b = handle-back h ws met fit refl in
-          let u = p .here in
-          rw d (λ i. record { land = sym b i; answer = 0; range = u i })
+  walk-0 t =
+      let c = one-there met (next-from (x .0) met) s met-at r er t in
+      let d = is-walk h ws (x .0)
+      ∙ call-accepted layout (walk (x .0)) h ws met (held h ws (found .good) (found .whole)) (c .range) (rng 0 0) met
+      (walk-visits (arenaOf h) (x .0) met (c .range) (c .is)) in
+      let b = handle-back h ws met fit refl in
+      let u = c .at .here in
+      rw d (λ i. record { land = sym b i; answer = 0; range = u i })
 
 pub ruleset walk-ways = (walk-5, walk-6, walk-2, walk-0)
