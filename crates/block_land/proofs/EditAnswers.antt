@@ -2,7 +2,7 @@
 use Prim.Native.Nat.{ℕ, _+_, _-_, _^_, _≤_, _<_}
 use mathlib.Core.Bool.{true, false}
 use mathlib.Core.List.{List}
-use mathlib.Core.Path.{_≡_, refl, sym, _∙_}
+use mathlib.Core.Path.{_≡_, refl, sym, ap, _∙_}
 use native.Mathlib.Omega.{arith}
 use lib.ListN.{length}
 use borrow.Author.Tests.{not-false}
@@ -16,7 +16,7 @@ use Rattle.model.specs.Marks.{rng}
 use Rattle.model.proofs.Outcomes.{call-refused, call-accepted}
 use Rattle.model.proofs.Requests.{range-rules}
 use Rattle.model.proofs.Totals.{total-insert, total-delete, total-small}
-use Rattle.block_edits.specs.Edits.{Sorted, joined, putOf, putWords, remaining, cutOf, cutWords}
+use Rattle.block_edits.specs.Edits.{Sorted, editedNumber, joined, putOf, putWords, remaining, cutOf, cutWords}
 use Rattle.block_edits.specs.declared.Edited.{Edited}
 use Rattle.block_edits.proofs.Answered.{put-refused, put-full, put-done, put-words, cut-refused, cut-full, cut-done, cut-words}
 use Rattle.block_land.specs.Calls.{inserted, deleted, changed, refusedBy}
@@ -115,6 +115,19 @@ module _ (h : BlockLand) (ws : List ℕ) (y : Range) (k : Readable h ws) where
         let v = o .range in
         (rw d (λ i. record { land = c i; answer = 0; range = v i }), rw d (e .1 ∙ put-words ws (h .ranges) y (Edited.Done x m) q))
 
+  -- the number of an edit is the answer
+  number-in : good-range (arenaOf h ws) (y .base .0) (y .limit .0) ≡ true → (p : Edited) → p ≡ putOf ws (h .ranges) y → editedNumber p ≡ changed (inserted h ws y) .answer
+  number-in g Edited.Refused e = ap (λ (c : Changed). c .answer) (insert-1 g Edited.Refused (putWords ws (h .ranges) y) (e, refl) refl (refusedBy h 1) refl .0)
+  number-in g Edited.Full e = ap (λ (c : Changed). c .answer) (insert-3 g Edited.Full (putWords ws (h .ranges) y) (e, refl) refl (refusedBy h 3) refl .0)
+  number-in g (Edited.Done x m) e =
+      let s : Size = record { 0 = l - b } in
+      let t : Size = record { 0 = h .bytes .0 + (l - b) } in
+      ap (λ (c : Changed). c .answer)
+      (insert-0 g (Edited.Done x m) (putWords ws (h .ranges) y) (e, refl) x m refl s refl t refl (closedWith h m t) refl .0)
+
+  pub put-number : good-range (arenaOf h ws) (y .base .0) (y .limit .0) ≡ true → editedNumber (putOf ws (h .ranges) y) ≡ changed (inserted h ws y) .answer
+  put-number g = number-in g (putOf ws (h .ranges) y) refl
+
   -- A DELETE
   abbrev Deletes : Changed → List ℕ → Type 0
   Deletes w vs = (w ≡ changed (deleted h ws y)) × (vs ≡ deleted h ws y .words)
@@ -164,3 +177,15 @@ module _ (h : BlockLand) (ws : List ℕ) (y : Range) (k : Readable h ws) where
           let c : z ≡ closed h new = ez ∙ closes h new m t (o .count) (omega arith) in
           let v = o .range in
           (rw d (λ i. record { land = c i; answer = 0; range = v i }), rw d (e .1 ∙ cut-words ws (h .ranges) y (Edited.Done x m) q))
+
+  number-out : good-range (arenaOf h ws) (y .base .0) (y .limit .0) ≡ true → (p : Edited) → p ≡ cutOf ws (h .ranges) y → editedNumber p ≡ changed (deleted h ws y) .answer
+  number-out g Edited.Refused e = ap (λ (c : Changed). c .answer) (delete-1 g Edited.Refused (cutWords ws (h .ranges) y) (e, refl) refl (refusedBy h 1) refl .0)
+  number-out g Edited.Full e = ap (λ (c : Changed). c .answer) (delete-3 g Edited.Full (cutWords ws (h .ranges) y) (e, refl) refl (refusedBy h 3) refl .0)
+  number-out g (Edited.Done x m) e =
+      let s : Size = record { 0 = l - b } in
+      let t : Size = record { 0 = h .bytes .0 - (l - b) } in
+      ap (λ (c : Changed). c .answer)
+      (delete-0 g (Edited.Done x m) (cutWords ws (h .ranges) y) (e, refl) x m refl s refl t refl (closedWith h m t) refl .0)
+
+  pub cut-number : good-range (arenaOf h ws) (y .base .0) (y .limit .0) ≡ true → editedNumber (cutOf ws (h .ranges) y) ≡ changed (deleted h ws y) .answer
+  cut-number g = number-out g (cutOf ws (h .ranges) y) refl
