@@ -79,12 +79,18 @@ def write(files):
 
 
 def check(copy, crate):
-    """The exit status, the prover's last word, and the first error, of a crate in a copy."""
+    """The exit status, the prover's last word, and the errors, of a crate in a copy."""
     ran = subprocess.run(["rt", "dev", crate], cwd=copy, stdin=subprocess.DEVNULL, capture_output=True, text=True)
     lines = (ran.stdout + ran.stderr).split("\n")
     words = [line for line in lines if line.startswith("logic=")]
     errors = [line for line in lines if ": error" in line or re.match(r"note: \S+:\d+:\d+: it is not proved", line)]
-    return ran.returncode, words[-1] if words else "", errors[0].replace(copy + "/", "") if errors else ""
+    return ran.returncode, words[-1] if words else "", [line.replace(copy + "/", "").removeprefix("note: ") for line in errors]
+
+
+def place_of(errors):
+    """Where the first error stands that is no consequence of another."""
+    causes = [error for error in errors if "was not admitted" not in error] or errors or [""]
+    return causes[0].split(": error")[0].split(": it is not proved")[0]
 
 
 def proved(copy, crate):
@@ -100,16 +106,17 @@ def judge(copy, crate, edit):
         return str(bad), ""
     try:
         write(after)
-        status, word, error = check(copy, crate)
+        status, word, errors = check(copy, crate)
     finally:
         write(before)
     if status == 0:
         return "NOT REFUSED: the crate is still proved", ""
+    first = errors[0] if errors else ""
     if status != 1 or not word.startswith("logic=not-proved"):
-        return f"it did not reach the prover: {error[:300]}", ""
-    if OF_NAMES.search(error):
-        return f"refused for a name, not for a fact: {error[:300]}", ""
-    return None, error.split(": error")[0].split(": it is not proved")[0]
+        return f"it did not reach the prover: {first[:300]}", ""
+    if OF_NAMES.search(first):
+        return f"refused for a name, not for a fact: {first[:300]}", ""
+    return None, place_of(errors)
 
 
 def try_crate(copy, crate, say):
