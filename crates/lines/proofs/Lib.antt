@@ -1,0 +1,9 @@
+pub mod Ways
+pub mod FormWays
+pub mod LineWays
+pub mod Running
+pub mod Pieces
+pub mod Numerals
+pub mod Packing
+pub mod Fields
+pub mod Requesting

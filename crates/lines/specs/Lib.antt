@@ -1,0 +1,4 @@
+pub mod Names
+pub mod Requests
+pub mod Reading
+pub mod Parts
