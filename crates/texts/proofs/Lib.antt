@@ -1,0 +1,4 @@
+pub mod Decimal
+pub mod Spelling
+pub mod Writing
+pub mod Putting
