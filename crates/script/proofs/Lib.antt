@@ -1,0 +1,9 @@
+pub mod Describing
+pub mod Continuing
+pub mod Ways
+pub mod Asking
+pub mod Turning
+pub mod Telling
+pub mod Going
+pub mod RunsPrint
+pub mod SampleHolds

@@ -1,0 +1,39 @@
+-- `end` meets its contract. Assumes nothing.
+use native.Mathlib.Omega.{arith}
+use Rattle.script.proofs.Going.{ends-short, ends-open, ends-quiet}
+use borrow.Author.Needs.{needs}
+use Rattle.script.proofs.Script.end.Statement.{statement}
+use Rattle.script.proofs.Script.end.Tie as tie
+
+returns : tie.Need-returns
+returns c = ends-short _ _ (c .if1 .taken)
+
+begun-requires : tie.Need-begun-requires
+begun-requires c κs = search needs
+
+put-byte-requires : tie.Need-put-byte-requires
+put-byte-requires c κs = search needs
+
+put-byte-requires-2 : tie.Need-put-byte-requires-2
+put-byte-requires-2 c κs = search needs
+
+same-length : tie.Need-same-length
+same-length c = search needs
+
+returns-2 : tie.Need-returns-2
+returns-2 c = ends-open (c .before .before .before .before .before .before .before .before .before .before .before .before .before .args .self) _ _ _ _ _ _ (c .before .before .before .before .before .before .before .before .before .begun .ensures) (c .before .before .before .before .before .before .before .before .if2 .taken) (omega arith) (c .before .before .before .before .before .before .put-byte .ensures) (c .before .before .put-byte2 .ensures)
+
+returns-3 : tie.Need-returns-3
+returns-3 c = ends-quiet (c .before .before .before .before .before .args .self) _ _ (c .before .begun .ensures) (c .if2 .left)
+
+pub end-spec : {M : Type 1} → statement M
+end-spec =
+    tie.close
+    (tie.spec
+    returns
+    begun-requires
+    put-byte-requires
+    put-byte-requires-2
+    same-length
+    returns-2
+    returns-3)

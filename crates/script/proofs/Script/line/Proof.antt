@@ -1,0 +1,73 @@
+-- `line` meets its contract. Assumes nothing.
+use mathlib.Core.Bool.{true, false}
+use mathlib.Core.Path.{refl}
+use native.Mathlib.Omega.{arith}
+use denote.Ref.{now}
+use Rattle.script.proofs.Going.{line-part, moves-on, moves-full, has-room, line-turn}
+use borrow.Author.Needs.{needs}
+use Rattle.script.proofs.Script.line.Statement.{statement}
+use Rattle.script.proofs.Script.line.Tie as tie
+
+read-requires : tie.Need-read-requires
+read-requires c κs = search needs
+
+returns : tie.Need-returns
+returns c =
+    let read = c .before .before .before .read .ensures in
+    (line-part (c .before .before .before .before .before .before .before .before .args .self) _ _ _ _ read _ _ (omega arith) false, moves-on _ _ _ _ _ _ (λ k. let e = c .if1 .taken in omega arith))
+
+add-used : tie.Need-add-used
+add-used c = search needs
+
+sub-is-ready : tie.Need-sub-is-ready
+sub-is-ready c = search needs
+
+is-ready-requires : tie.Need-is-ready-requires
+is-ready-requires c κs = search needs
+
+request-requires : tie.Need-request-requires
+request-requires c κs = search needs
+
+play-requires : tie.Need-play-requires
+play-requires c κs =
+    let x = c .before .before .before .before .before .before .before .before .before .before .before .before .before .before .args in
+    has-room (x .self .stage) (now (x .out)) (x .at) _ (c .before .before .before .before .is-ready .ensures) (c .before .before .before .if2 .taken)
+
+new-requires : tie.Need-new-requires
+new-requires c κs = search needs
+
+same-length : tie.Need-same-length
+same-length c = search needs
+
+same-length-2 : tie.Need-same-length-2
+same-length-2 c = search needs
+
+returns-2 : tie.Need-returns-2
+returns-2 c =
+    let x = c .before .before .before .before .before .before .before .before .before .before .before .before .before .before .before .before .before .before .before .before .args in
+    let read = c .before .before .before .before .before .before .before .before .before .before .before .before .before .before .before .read .ensures in
+    let from = read .start in (
+      line-turn (x .self) _ _ _ _ read _ (x .at) _ (c .before .before .before .before .before .before .before .before .before .before .is-ready .ensures) (c .before .before .before .before .before .before .before .before .before .if2 .taken) (c .before .before .before .before .before .before .before .before .before .before .before .before .if1 .left) _ (c .before .before .before .before .before .before .before .request .ensures) _ _ _
+          (c .before .before .before .before .before .play .ensures) _ (c .new .ensures),
+      moves-on _ _ _ _ _ _ (λ k. omega arith),
+    )
+
+returns-3 : tie.Need-returns-3
+returns-3 c = (line-part (c .before .before .before .before .before .before .before .before .before .before .before .args .self) _ _ _ _ (c .before .before .before .before .before .before .read .ensures) _ _ (omega arith) true, moves-full _ _ _ _ _ _ refl _ (c .before .is-ready .ensures) (c .if2 .left))
+
+pub line-spec : {M : Type 1} → statement M
+line-spec =
+    tie.close
+    (tie.spec
+    read-requires
+    returns
+    add-used
+    sub-is-ready
+    is-ready-requires
+    request-requires
+    play-requires
+    new-requires
+    same-length
+    same-length-2
+    returns-2
+    returns-3)

@@ -1,0 +1,54 @@
+-- `describe` meets its contract. Assumes nothing.
+use Rattle.script.proofs.Telling.{leaves, leaves-closed, leaves-open}
+use borrow.Author.Needs.{needs}
+use Rattle.script.proofs.Stage.describe.Statement.{statement}
+use Rattle.script.proofs.Stage.describe.Tie as tie
+
+enum-known-self : tie.Need-enum-known-self
+enum-known-self c = search needs
+
+words-between-requires : tie.Need-words-between-requires
+words-between-requires c κs = search needs
+
+fit-requires : tie.Need-fit-requires
+fit-requires c κs = search needs
+
+slice-aggregate-lines-from : tie.Need-slice-aggregate-lines-from
+slice-aggregate-lines-from c = search needs
+
+lines-from-requires : tie.Need-lines-from-requires
+lines-from-requires c κs = search needs
+
+enum-told : tie.Need-enum-told
+enum-told c = search needs
+
+enum-told-2 : tie.Need-enum-told-2
+enum-told-2 c = search needs
+
+same-length : tie.Need-same-length
+same-length c = search needs
+
+returns : tie.Need-returns
+returns c = leaves _ _ _ _ _ _ _ (search needs) (c .before .before .before .before .before .before .words-between .ensures) (c .before .before .before .before .before .fit .ensures) (c .before .before .lines-from .ensures)
+
+returns-2 : tie.Need-returns-2
+returns-2 c = search leaves-closed
+
+returns-3 : tie.Need-returns-3
+returns-3 c = search leaves-open
+
+pub describe-spec : {M : Type 1} → statement M
+describe-spec =
+    tie.close
+    (tie.spec
+    enum-known-self
+    words-between-requires
+    fit-requires
+    slice-aggregate-lines-from
+    lines-from-requires
+    enum-told
+    enum-told-2
+    same-length
+    returns
+    returns-2
+    returns-3)

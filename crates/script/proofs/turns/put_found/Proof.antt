@@ -1,0 +1,44 @@
+-- `put_found` meets its contract. Assumes nothing.
+use Rattle.script.proofs.Ways.{says-found}
+use borrow.Author.Needs.{needs}
+use Rattle.script.proofs.turns.put_found.Statement.{statement}
+use Rattle.script.proofs.turns.put_found.Tie as tie
+
+put-requires : tie.Need-put-requires
+put-requires c κs = search needs
+
+number-requires : tie.Need-number-requires
+number-requires c κs = search needs
+
+number-requires-2 : tie.Need-number-requires-2
+number-requires-2 c κs = search needs
+
+number-requires-3 : tie.Need-number-requires-3
+number-requires-3 c κs = search needs
+
+number-requires-4 : tie.Need-number-requires-4
+number-requires-4 c κs = search needs
+
+put-four-requires : tie.Need-put-four-requires
+put-four-requires c κs = search needs
+
+same-length : tie.Need-same-length
+same-length c = search needs
+
+returns : tie.Need-returns
+returns c =
+    says-found (c .before .before .before .before .before .before .before .before .before .before .before .before .before .before .before .before .args .f) _ _ _ _ _ _ (c .before .before .before .before .before .before .number .ensures) (c .before .before .before .before .before .number2 .ensures) (c .before .before .before .before .number3 .ensures) (c .before .before .before .number4 .ensures)
+    (c .before .before .before .before .before .before .before .before .before .before .put .ensures) (c .before .before .put-four .ensures)
+
+pub put-found-spec : {M : Type 1} → statement M
+put-found-spec =
+    tie.close
+    (tie.spec
+    put-requires
+    number-requires
+    number-requires-2
+    number-requires-3
+    number-requires-4
+    put-four-requires
+    same-length
+    returns)

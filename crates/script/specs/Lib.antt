@@ -1,0 +1,4 @@
+pub mod Printed
+pub mod Feeding
+pub mod Runs
+pub mod Sample
