@@ -59,7 +59,7 @@ module _ (s : Script) (ws bytes : List ℕ) (from : ℕ) (o : Read) (t : ReadTo 
 -- IT DOES NOT STAND STILL
 module _ (s : Script) (bytes : List ℕ) (from : ℕ) (out : List ℕ) (at : ℕ) (f : Fed) where
   pub moves-on : (from < length bytes → from < f .used) → Moves s bytes from out at f
-  moves-on g = record { onward = λ k e. g k; ready = λ k e. g k }
+  moves-on g = record { onward = λ k e. let m = g k in omega arith; ready = λ k e. let m = g k in omega arith }
 
   pub moves-full : f .full ≡ true → (d : Bool) → d ≡ is-ready (s .stage) (length out - at) → d ≡ false → Moves s bytes from out at f
   moves-full e d ed nd = record { onward = λ k g. clash e g; ready = λ k g. clash g (sym ed ∙ nd) }
@@ -155,9 +155,9 @@ goes-then p q =
     record { later = omega arith; used = q .used; fits = omega arith; size = n ∙ m; text = λ more. p .text more ∙ q .text more }
 
 -- A DESCRIPTION
-pub goes-describe : (s : Script) (ws out out' : List ℕ) (r : Turn) → Leaves (s .stage) ws out out' r →
-    Goes s ws [] 0 out 0 (record { script = record { stage = r .stage; reader = s .reader }; used = 0; at = r .at; full = true }) ws out'
-goes-describe s ws out out' r l = record {
+pub goes-describe : (s : Script) (ws out out' : List ℕ) (r : Turn) (full : Bool) → Leaves (s .stage) ws out out' r →
+    Goes s ws [] 0 out 0 (record { script = record { stage = r .stage; reader = s .reader }; used = 0; at = r .at; full = full }) ws out'
+goes-describe s ws out out' r full l = record {
   later = omega arith;
   used = omega arith;
   fits = l .fits;

@@ -12,7 +12,7 @@ use Rattle.script.proofs.Continuing.{from-start}
 
 run-rest : {s : Script} {ws input text : List ℕ} → Run s ws input text → text ≡ rest-of s ws input
 run-rest (part s ws bytes more f ws' out out' text g r) = ap (λ (t : List ℕ). take (f .at) out' ++ t) (run-rest r) ∙ sym (g .text more)
-run-rest (end s ws e) = rw e
+run-rest (end s ws out out' n e k t) = rw e (t .text k)
 
 pub prints-whole : PrintsWhole
 prints-whole ws input text r = run-rest r ∙ from-start Stage.Closed ws (split newline input)

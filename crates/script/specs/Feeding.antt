@@ -103,6 +103,11 @@ pub record Uses (s : Script) (bytes out : List ℕ) (f : Fed) : Type 0 where
   pub all : f .full ≡ false → f .used ≡ length bytes
   pub some : 0 < length bytes → is-ready (s .stage) (length out) ≡ true → 0 < f .used
 
+-- Of a description that goes on: something is put out, and it says whether the buffer was too short for it.
+pub record Tells (out : List ℕ) (f : Fed) : Type 0 where
+  pub shows : Shows out (f .script .stage) (f .at)
+  pub full : f .full ≡ is-describing (f .script .stage)
+
 -- The script before the first byte.
 abbrev pub script-start : Script
 script-start = record { stage = Stage.Closed; reader = at-start }

@@ -10,7 +10,7 @@ ghost use mathlib.Core.List.{[]};
 ghost use mathlib.Core.Path.{_≡_};
 ghost use Prim.Native.Nat.{_≤_, _<_};
 ghost use lib.ListN.{length};
-ghost use Rattle.script.specs.Feeding.{Goes, Moves, Uses, Shows, Ends, is-describing, script-start};
+ghost use Rattle.script.specs.Feeding.{Goes, Moves, Uses, Tells, Ends, is-describing, script-start};
 
 // No arena yet; a land; or a land with a description that goes on from an address.
 pub enum Stage {
@@ -32,7 +32,7 @@ pub struct Script {
 }
 
 // A script after some bytes: how many of them were used, how many were put out, and whether it stopped because the buffer
-// is full or a description has to be printed first.
+// is too short or a description has to be printed first.
 pub struct Fed {
     pub script: Script,
     pub used: usize,
@@ -125,7 +125,7 @@ impl Script {
     // The ranges of a description that is under way, as many as the buffer has room for.
     pub fn describe(self, words: &[u64], out: &mut [u8]) -> Fed
         ensures { λ r. ⌜ Goes self (now (words .entry)) [] 0 (now (out .entry)) 0 r (now (words .entry)) (now (out .exit)) ⌝ }
-        ensures { λ r. ⌜ Shows (now (out .entry)) (r .script .stage) (r .at) ⌝ }
+        ensures { λ r. ⌜ Tells (now (out .entry)) r ⌝ }
     {
         let stage = self.stage;
         let reader = self.reader;
@@ -138,7 +138,7 @@ impl Script {
             },
             used: 0,
             at: turn.at,
-            full: true,
+            full: next.is_describing(),
         }
     }
 

@@ -56,7 +56,7 @@ pub fn put_byte(out: &mut [u8], at: usize, b: u8) -> usize
     at + 1
 }
 
-// Writes a line of two numbers; of three; of five.
+// Writes a line of two numbers; of three; of four.
 pub fn put_two(out: &mut [u8], at: usize, a: u64, b: u64) -> usize
     requires { ⌜ at + 42 ≤ length (now out) ⌝ }
     ensures { λ r. ⌜ Wrote 42 (now (out .entry)) at (line (a ∷ b ∷ [])) (now (out .exit)) r ⌝ }

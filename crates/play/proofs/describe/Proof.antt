@@ -34,7 +34,7 @@ returns c = tt
 loop-less : tie.Need-loop-less Inv-loop μ-loop
 loop-less c =
     let told = c .before .before .before .before .before .before .before .before .before .is-describing .ensures in
-    prints-less (c .before .before .before .before .before .before .before .before .before .before .loop .script) _ _ _ _ (c .before .before .before .before .before .before .describe .ensures .0) (c .before .before .before .before .before .before .describe .ensures .1) (omega arith) (sym told ∙ c .before .before .before .before .before .before .before .before .if1 .taken)
+    prints-less (c .before .before .before .before .before .before .before .before .before .before .loop .script) _ _ _ _ (c .before .before .before .before .before .before .describe .ensures .0) (c .before .before .before .before .before .before .describe .ensures .1 .shows) (omega arith) (sym told ∙ c .before .before .before .before .before .before .before .before .if1 .taken)
 
 loop-again : tie.Need-loop-again Inv-loop μ-loop
 loop-again c = search needs

@@ -10,8 +10,13 @@ describe-requires c κs = search needs
 same-length : tie.Need-same-length
 same-length c = search needs
 
+is-describing-requires : tie.Need-is-describing-requires
+is-describing-requires c κs = search needs
+
 returns : tie.Need-returns
-returns c = (goes-describe (c .before .before .before .before .before .before .before .args .self) _ _ _ _ (c .before .before .describe .ensures), c .before .before .describe .ensures .shows)
+returns c =
+    let left = c .before .before .before .describe .ensures in
+    (goes-describe (c .before .before .before .before .before .before .before .before .args .self) _ _ _ _ _ left, record { shows = left .shows; full = c .is-describing .ensures })
 
 pub describe-spec : {M : Type 1} → statement M
-describe-spec = tie.close (tie.spec describe-requires same-length returns)
+describe-spec = tie.close (tie.spec describe-requires is-describing-requires same-length returns)
