@@ -1,0 +1,3 @@
+pub mod GivenModes
+pub mod ListRefusing
+pub mod BlockRefusing

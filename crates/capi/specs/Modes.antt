@@ -1,0 +1,18 @@
+-- A find's mode as a number. Assumes nothing.
+use Prim.Native.Nat.{ℕ}
+use mathlib.Core.Bool.{Bool, cond}
+use lib.Dec.{eqb}
+use Rattle.units.specs.declared.Mode.{Mode}
+use Rattle.capi.specs.declared.modes.Given.{Given}
+
+-- 0 none, 1 low, 2 high, 3 entire.
+abbrev pub givenMode : ℕ → Given
+givenMode m =
+    cond (eqb m 0) (Given.Mode Mode.None)
+    (cond (eqb m 1) (Given.Mode Mode.Low)
+    (cond (eqb m 2) (Given.Mode Mode.High)
+    (cond (eqb m 3) (Given.Mode Mode.Entire) Given.Unknown)))
+
+-- Any other number is answered 4 where the size rule is tested: after 5 and 6.
+abbrev pub unknownMode : Bool → Bool → ℕ
+unknownMode set-up sound = cond set-up (cond sound 4 6) 5
