@@ -16,6 +16,7 @@ use Rattle.list_land.specs.Calls.{LandDone, inserted, deleted, found, walked, o
 use Rattle.list_land.specs.declared.ListLand.{ListLand}
 use Rattle.list_land.specs.declared.Opened.{Opened}
 use Rattle.texts.specs.Decimal.{line}
+use Rattle.lines.specs.Names.{ascii}
 use Rattle.lines.specs.Requests.{newline, split, parse}
 use Rattle.lines.specs.declared.Request.{Request}
 use Rattle.script.specs.declared.Stage.{Stage}
@@ -26,9 +27,8 @@ pub record Turned : Type 0 where
   pub words : List ℕ
   pub text : List ℕ
 
--- A question mark and a newline.
 abbrev pub question : List ℕ
-question = 63 ∷ newline ∷ []
+question = ascii "?\n"
 
 -- A line outside the forms, or a call before an arena, prints "?".
 abbrev pub unknown : Stage → List ℕ → Turned
@@ -59,7 +59,7 @@ describe-turn h ws (holding rs) = record {
   text = line (0 ∷ length rs ∷ total rs ∷ []);
 }
 
--- A request on a land, whose arena is lent whole.
+-- A request on a land, whose arena is lent whole. An arena line does not come here (`turn-of`).
 abbrev pub land-turn : ListLand → List ℕ → Request → Turned
 land-turn h ws Request.Unknown = unknown (Stage.Open h) ws
 land-turn h ws (Request.Arena b l a) = unknown (Stage.Open h) ws
@@ -86,11 +86,13 @@ on-first n ws f = record { stage = f (take n ws) .stage; words = f (take n ws) .
 abbrev pub arena-words : ListLand → ℕ
 arena-words h = wordNumber (base h) (limit h)
 
+-- A call goes by the stage: before an arena it prints "?".
 abbrev pub call-turn : Stage → List ℕ → Request → Turned
 call-turn Stage.Closed ws q = unknown Stage.Closed ws
 call-turn (Stage.Open h) ws q = on-first (arena-words h) ws (λ part. land-turn h part q)
 call-turn (Stage.Describing h x) ws q = on-first (arena-words h) ws (λ part. land-turn h part q)
 
+-- What a line plays: an arena, or a call.
 abbrev pub turn-of : Stage → List ℕ → Request → Turned
 turn-of s ws Request.Unknown = call-turn s ws Request.Unknown
 turn-of s ws (Request.Arena b l a) = on-first (wordNumber (b .0) (l .0)) ws (arena-turn s b l a)
