@@ -10,6 +10,7 @@ use Rattle.block_land.specs.declared.Look.{Look}
 use Rattle.capi.specs.Modes.{givenMode, unknownMode}
 use Rattle.capi.specs.declared.modes.Given.{Given}
 
+-- A find with its mode; with a number that is none, a refusal that leaves the handle and the words.
 abbrev pub foundGiven : BlockLand → List ℕ → Which → ℕ → Given → LandDone
 foundGiven h ws w n (Given.Mode mode) = found h ws w n mode
 foundGiven h ws w n Given.Unknown = record { out = refused (unknownMode (setUp h ws) (sound h ws)); handle = h; words = ws }
