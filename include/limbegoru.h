@@ -10,7 +10,7 @@
  *
  * No call has a precondition on its numbers: every handle, every memory and every number is answered. A refused call
  * returns ranges {0, 0} and the handle that it was given (all zeros from an opening), and changes no word. What must hold:
- * the pointer is aligned to 8 bytes and points to n words (NULL with n 0 is fine), and the two memories of a flush do not
+ * the pointer is aligned to 8 bytes and points to n words (NULL with n 0 is fine), and two memories of one call do not
  * overlap. The host may write every word that is not free between two calls, and must leave the free ones and node space.
  */
 #ifndef LIMBEGORU_H
@@ -113,6 +113,13 @@ lg_list_found lg_list_find_largest(lg_list_land land, uint64_t *words, size_t n,
 
 /* The isolated range of lowest base at or above a number. Going on from each range's limit meets every range once. */
 lg_list_changed lg_list_walk(lg_list_land land, const uint64_t *words, size_t n, uint64_t from);
+
+/* The same three calls for a host that keeps the handle in a structure of its own: the handle that stands at `land` is used,
+ * and the next one is stored there. A refused call leaves it as it was. What is returned is what the call above returns.
+ * `land` points to a handle, which does not overlap the words. */
+lg_list_changed lg_list_insert_at(lg_list_land *land, uint64_t *words, size_t n, lg_range range);
+lg_list_changed lg_list_delete_at(lg_list_land *land, uint64_t *words, size_t n, lg_range range);
+lg_list_changed lg_list_walk_at(lg_list_land *land, const uint64_t *words, size_t n, uint64_t from);
 
 /* The same calls on a block land, whose ranges stand in node space. The opening sets all pair words to 0. */
 lg_block_opened lg_block_open(uint64_t base, uint64_t limit, uint64_t align, uint64_t *nodes, size_t m);

@@ -62,8 +62,19 @@ int main(void) {
     expect("the block land has them", flushed.block.ranges, 2);
     expect("found there", lg_block_find_largest(flushed.block, nodes, 8, 0, LG_MODE_ENTIRE).answer, LG_OK);
 
+    /* The handle inside a structure of the host's own. */
+    struct document {
+        lg_list_land land;
+        lg_range paragraph;
+    } document = {again.land, two.range};
+    expect("released in place", lg_list_insert_at(&document.land, memory, WORDS, document.paragraph).answer, LG_OK);
+    expect("released in place again", lg_list_insert_at(&document.land, memory, WORDS, document.paragraph).answer, LG_OVERLAP);
+    expect("all is one range", lg_list_walk_at(&document.land, memory, WORDS, 0).range.limit, all.limit);
+    expect("taken out in place", lg_list_delete_at(&document.land, memory, WORDS, document.paragraph).answer, LG_OK);
+    expect("the handle counts the bytes", document.land.bytes, again.land.bytes);
+
     /* A word of a free range is overwritten: the list is refused. */
     memory[(one.range.base - BASE) / 8] = 3;
-    expect("scribbled on", lg_list_walk(again.land, memory, WORDS, 0).answer, LG_DAMAGED);
+    expect("scribbled on", lg_list_walk(document.land, memory, WORDS, 0).answer, LG_DAMAGED);
     return failed;
 }

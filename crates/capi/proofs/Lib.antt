@@ -1,3 +1,4 @@
 pub mod GivenModes
 pub mod ListRefusing
 pub mod BlockRefusing
+pub mod PassingOn
