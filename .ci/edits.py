@@ -1,14 +1,17 @@
 #!/usr/bin/env python3
-"""Tries every must-fail edit: crates/NAME/must-fail/*.edit, each a wrong program that the prover must refuse.
+"""Tries must-fail edits, each a wrong program that the prover must refuse.
 
-Run from the top of the repository after `rt check`: python3 .ci/edits.py [CRATE...]. It works on copies of the repository,
-one for each processor, and leaves the repository alone.
+    python3 .ci/edits.py [CRATE...]    after rt check: every edit of the crates
+    python3 .ci/edits.py --after-ci    after rt ci: those that rt ci does not try; of the others it reads the logs
 
-An edit is applied to its crate in a copy, and the crate is checked over the incremental folder of the crate as it stands:
-what the edit does not reach is not checked again. The edit passes if the prover refuses the crate because a fact fails.
-It fails if the crate is still proved, if it does not reach the prover, if an 'old:' text is not in its file exactly once,
-or if the first error is of a name: such a refusal says nothing about the program. Before the first and after the last edit
-the crate as it stands must be proved in the copy.
+Run from the top of the repository. The edits in crates/NAME/must-fail are also tried by rt ci, which checks the edited crate
+from nothing; those in crates/NAME/must-fail/more are tried here alone.
+
+An edit is applied to its crate in a copy of the repository, one for each processor, and the crate is checked over the
+incremental folder of the crate as it stands: what the edit does not reach is not checked again. The edit passes if the prover
+refuses the crate because a fact fails. It fails if the crate is still proved, if it does not reach the prover, if an 'old:'
+text is not in its file exactly once, or if the first error is of a name: such a refusal says nothing about the program.
+Before the first and after the last edit the crate as it stands must be proved in the copy.
 
 The last line is 'N passed, M failed'; the exit status is 0 exactly if M is 0.
 """
@@ -37,11 +40,21 @@ def crates():
     return [line.split(":")[0].strip() for line in lines if ":" in line]
 
 
-def edits_of(crate):
-    folder = os.path.join("crates", crate, "must-fail")
+def edits_in(*folders):
+    folder = os.path.join("crates", *folders)
     if not os.path.isdir(folder):
         return []
     return sorted(os.path.join(folder, name) for name in os.listdir(folder) if name.endswith(".edit"))
+
+
+def edits_of(crate, after_ci):
+    """The edits of a crate that are to be tried here."""
+    tried_by_rt = [] if after_ci else edits_in(crate, "must-fail")
+    return tried_by_rt + edits_in(crate, "must-fail", "more")
+
+
+def name_of(crate, edit):
+    return f"{crate}/{os.path.basename(edit).removesuffix('.edit')}"
 
 
 def edited(copy, crate, edit):
@@ -78,13 +91,17 @@ def write(files):
             file.write(text)
 
 
+def errors_in(said):
+    return [line for line in said.split("\n") if ": error" in line or re.match(r"note: \S+:\d+:\d+: it is not proved", line)]
+
+
 def check(copy, crate):
     """The exit status, the prover's last word, and the errors, of a crate in a copy."""
     ran = subprocess.run(["rt", "dev", crate], cwd=copy, stdin=subprocess.DEVNULL, capture_output=True, text=True)
-    lines = (ran.stdout + ran.stderr).split("\n")
-    words = [line for line in lines if line.startswith("logic=")]
-    errors = [line for line in lines if ": error" in line or re.match(r"note: \S+:\d+:\d+: it is not proved", line)]
-    return ran.returncode, words[-1] if words else "", [line.replace(copy + "/", "").removeprefix("note: ") for line in errors]
+    said = ran.stdout + ran.stderr
+    words = [line for line in said.split("\n") if line.startswith("logic=")]
+    errors = [line.replace(copy + "/", "").removeprefix("note: ") for line in errors_in(said)]
+    return ran.returncode, words[-1] if words else "", errors
 
 
 def place_of(errors):
@@ -114,21 +131,42 @@ def judge(copy, crate, edit):
     first = errors[0] if errors else ""
     if status != 1 or not word.startswith("logic=not-proved"):
         return f"it did not reach the prover: {first[:300]}", ""
-    if OF_NAMES.search(first):
-        return f"refused for a name, not for a fact: {first[:300]}", ""
-    return None, place_of(errors)
+    return of_a_name(first), place_of(errors)
 
 
-def try_crate(copy, crate, say):
-    """Tries the edits of a crate in a copy; gives how many passed and how many failed."""
+def of_a_name(first):
+    """What is wrong with a refusal whose first error is this one, or None."""
+    return f"refused for a name, not for a fact: {first[:300]}" if OF_NAMES.search(first) else None
+
+
+def read_logs(wanted, say):
+    """Of the edits that rt ci has tried: how many were refused for a name."""
+    failed = 0
+    for crate in wanted:
+        for edit in edits_in(crate, "must-fail"):
+            name = name_of(crate, edit)
+            log = os.path.join("target", "must-fail", name, ".log")
+            if not os.path.isfile(log):
+                wrong = "rt ci has not tried it"
+            else:
+                with open(log, encoding="utf-8") as file:
+                    wrong = of_a_name((errors_in(file.read()) or ["no error in the log"])[0])
+            if wrong is not None:
+                failed += 1
+                say(f"edit {name}: FAILED: {wrong}")
+    return failed
+
+
+def try_crate(copy, crate, edits, say):
+    """Tries edits of a crate in a copy; gives how many passed and how many failed."""
     passed = failed = 0
     if not proved(copy, crate):
         say(f"edits of {crate}: FAILED: the crate as it stands is not proved in the copy")
         return 0, 1
-    for edit in edits_of(crate):
+    for edit in edits:
         began = time.time()
         wrong, where = judge(copy, crate, edit)
-        name = f"{crate}/{os.path.basename(edit).removesuffix('.edit')}"
+        name = name_of(crate, edit)
         if wrong is None:
             passed += 1
             say(f"edit {name}: refused at {where} ({time.time() - began:.0f} s)")
@@ -150,43 +188,60 @@ def copy_to(folder):
     os.makedirs(os.path.join(folder, "target", "log"))
 
 
-def main():
-    wanted = sys.argv[1:] or crates()
-    todo, totals, lock = queue.Queue(), [0, 0], threading.Lock()
-    for crate in sorted(wanted, key=lambda name: -len(edits_of(name))):
-        if edits_of(crate):
-            todo.put(crate)
+def weight(crate, edits):
+    """About how long the edits of a crate take: their number times the length of its code."""
+    sizes = [os.path.getsize(os.path.join(place, name)) for place, _, names in os.walk(f"crates/{crate}/src") for name in names]
+    return len(edits) * sum(sizes)
 
-    def say(text):
-        with lock:
-            print(text, flush=True)
+
+def try_all(todo, say):
+    """Tries the edits of (crate, edits) pairs, longest first, a copy for each processor."""
+    waiting, totals, lock = queue.Queue(), [0, 0], threading.Lock()
+    for crate, edits in sorted(todo, key=lambda pair: -weight(*pair)):
+        waiting.put((crate, edits))
 
     def work(folder):
         copy_to(folder)
         while True:
             try:
-                crate = todo.get_nowait()
+                crate, edits = waiting.get_nowait()
             except queue.Empty:
                 return
-            passed, failed = try_crate(folder, crate, say)
+            passed, failed = try_crate(folder, crate, edits, say)
             with lock:
                 totals[0] += passed
                 totals[1] += failed
 
     with tempfile.TemporaryDirectory() as room:
+        folders = [os.path.join(room, str(number)) for number in range(min(os.cpu_count() or 1, 4))]
         workers = []
-        for number in range(min(os.cpu_count() or 1, 4)):
-            folder = os.path.join(room, str(number))
+        for folder in folders:
             os.mkdir(folder)
             workers.append(threading.Thread(target=work, args=(folder,)))
         for worker in workers:
             worker.start()
         for worker in workers:
             worker.join()
-    if totals == [0, 0]:
-        totals[1] = 1
-    print(f"{totals[0]} passed, {totals[1]} failed")
-    return 1 if totals[1] else 0
+    return totals
+
+
+def main():
+    after_ci = sys.argv[1:2] == ["--after-ci"]
+    wanted = sys.argv[2 if after_ci else 1:] or crates()
+    printing = threading.Lock()
+
+    def say(text):
+        with printing:
+            print(text, flush=True)
+
+    of_names = read_logs(wanted, say) if after_ci else 0
+    todo = [(crate, edits_of(crate, after_ci)) for crate in wanted]
+    passed, failed = try_all([pair for pair in todo if pair[1]], say)
+    failed += of_names
+    if passed + failed == 0:
+        failed = 1
+    print(f"{passed} passed, {failed} failed")
+    return 1 if failed else 0
 
 
 if __name__ == "__main__":

@@ -1,0 +1,59 @@
+//! The command line.
+
+use std::env::Args;
+use std::process::exit;
+
+#[derive(Default)]
+pub struct Options {
+    pub quick: bool,
+    only: Option<String>,
+    workload: Option<u32>,
+    pub ranges: Option<usize>,
+    pub calls: Option<usize>,
+    pub implementation: Option<usize>,
+}
+
+fn usage() -> ! {
+    eprintln!("bench [--quick] [--only list|block] [--workload 1|2] [--ranges N] [--calls N] [--impl proved|c|rust]");
+    exit(2)
+}
+
+/// The next argument, one of the names; its place among them.
+fn one_of(arguments: &mut Args, names: &[&str]) -> usize {
+    let given = arguments.next().unwrap_or_else(|| usage());
+    names.iter().position(|name| *name == given).unwrap_or_else(|| usage())
+}
+
+/// The next argument, a number from `least` on.
+fn number(arguments: &mut Args, least: usize) -> usize {
+    let given = arguments.next().and_then(|text| text.parse().ok());
+    given.filter(|n| *n >= least).unwrap_or_else(|| usage())
+}
+
+impl Options {
+    pub fn from_arguments() -> Self {
+        let mut options = Self::default();
+        let mut arguments = std::env::args();
+        arguments.next();
+        while let Some(name) = arguments.next() {
+            let arguments = &mut arguments;
+            match name.as_str() {
+                "--quick" => options.quick = true,
+                "--only" => {
+                    let lands = ["list", "block"];
+                    options.only = Some(lands[one_of(arguments, &lands)].to_string());
+                }
+                "--workload" => options.workload = Some(1 + one_of(arguments, &["1", "2"]) as u32),
+                "--ranges" => options.ranges = Some(number(arguments, 2)),
+                "--calls" => options.calls = Some(number(arguments, 1)),
+                "--impl" => options.implementation = Some(one_of(arguments, &crate::measure::NAMES)),
+                _ => usage(),
+            }
+        }
+        options
+    }
+
+    pub fn wants(&self, land: &str, workload: u32) -> bool {
+        self.only.as_ref().is_none_or(|only| only == land) && self.workload.is_none_or(|only| only == workload)
+    }
+}

@@ -1,0 +1,219 @@
+//! Chequered arenas, and the requests made beforehand from a fixed seed.
+
+use std::fmt::Debug;
+
+use crate::abi::*;
+
+pub const ALIGN: u64 = 8;
+pub const BASE: u64 = 4096;
+/// Pairs of node space beyond the number of ranges.
+pub const SPARE_PAIRS: usize = 16;
+/// Ranges longer than all before them, spread evenly: a find of their size comes to rest there.
+const STAIRS: usize = 8;
+
+/// xorshift64*.
+pub struct Random(u64);
+
+impl Random {
+    pub fn new(seed: u64) -> Self {
+        Self(seed | 1)
+    }
+
+    /// A number below `n`.
+    pub fn below(&mut self, n: u64) -> u64 {
+        self.0 ^= self.0 >> 12;
+        self.0 ^= self.0 << 25;
+        self.0 ^= self.0 >> 27;
+        (self.0.wrapping_mul(0x2545_F491_4F6C_DD1D) >> 33) % n
+    }
+}
+
+/// Free ranges with granted gaps between them.
+pub struct Chequer {
+    pub arena: Range,
+    pub ranges: Vec<Range>,
+}
+
+fn stair(step: usize) -> u64 {
+    48 + 16 * step as u64
+}
+
+impl Chequer {
+    /// Free ranges of 8 to 32 bytes, a quarter of them grains, and the stairs; gaps of 8 to 32 bytes.
+    pub fn new(count: usize, random: &mut Random) -> Self {
+        let mut lengths: Vec<u64> = (0..count).map(|_| 8 + 8 * random.below(4)).collect();
+        for step in 0..STAIRS {
+            lengths[step * count / STAIRS] = stair(step);
+        }
+        let mut at = BASE;
+        let mut ranges = Vec::with_capacity(count);
+        for length in lengths {
+            let base = at + 8 + 8 * random.below(4);
+            at = base + length;
+            ranges.push(Range { base, limit: at });
+        }
+        let arena = Range { base: BASE, limit: at + 8 };
+        Self { arena, ranges }
+    }
+
+    fn bytes(&self) -> u64 {
+        self.ranges.iter().map(|r| r.limit - r.base).sum()
+    }
+}
+
+/// A land of either kind that holds a chequer's ranges, written down by the paper's layout and by no call.
+pub trait Land: Calls<Proved> + Calls<HandC> + Calls<HandRust> + Copy + PartialEq + Debug {
+    fn holding(chequer: &Chequer) -> (Self, Vec<u64>);
+
+    /// Makes the counts those of a walk that checks nothing.
+    fn recount(&mut self, words: &[u64]);
+}
+
+impl Land for ListLand {
+    fn holding(chequer: &Chequer) -> (Self, Vec<u64>) {
+        let arena = chequer.arena;
+        let mut words = vec![0; ((arena.limit - arena.base) / 8) as usize];
+        let mut next = 0;
+        for range in chequer.ranges.iter().rev() {
+            let i = ((range.base - arena.base) / 8) as usize;
+            if range.limit - range.base == 8 {
+                words[i] = next + 1;
+            } else {
+                words[i] = next;
+                words[i + 1] = range.limit;
+            }
+            next = range.base;
+        }
+        let land = Self {
+            base: arena.base,
+            limit: arena.limit,
+            align: ALIGN,
+            head: next,
+            ranges: chequer.ranges.len() as u64,
+            bytes: chequer.bytes(),
+        };
+        (land, words)
+    }
+
+    fn recount(&mut self, words: &[u64]) {
+        (self.ranges, self.bytes) = (0, 0);
+        let mut at = self.head;
+        while at != 0 && self.ranges < words.len() as u64 {
+            let i = (at.wrapping_sub(self.base) / 8) as usize;
+            let (Some(first), second) = (words.get(i), words.get(i + 1)) else { return };
+            let limit = if first & 1 == 1 { at + 8 } else { second.copied().unwrap_or(0) };
+            self.ranges += 1;
+            self.bytes = self.bytes.wrapping_add(limit.wrapping_sub(at));
+            at = first & !1;
+        }
+    }
+}
+
+impl Land for BlockLand {
+    fn holding(chequer: &Chequer) -> (Self, Vec<u64>) {
+        let mut nodes: Vec<u64> = chequer.ranges.iter().flat_map(|range| [range.base, range.limit]).collect();
+        nodes.resize(nodes.len() + 2 * SPARE_PAIRS, 0);
+        let land = Self {
+            base: chequer.arena.base,
+            limit: chequer.arena.limit,
+            align: ALIGN,
+            ranges: chequer.ranges.len() as u64,
+            bytes: chequer.bytes(),
+        };
+        (land, nodes)
+    }
+
+    fn recount(&mut self, nodes: &[u64]) {
+        let pairs = nodes.chunks_exact(2).take(self.ranges as usize);
+        self.bytes = pairs.map(|pair| pair[1].wrapping_sub(pair[0])).fold(0, u64::wrapping_add);
+    }
+}
+
+#[derive(Clone, Copy)]
+pub struct Change {
+    pub insert: bool,
+    pub range: Range,
+}
+
+pub enum Requests {
+    /// Workload 1.
+    Changes(Vec<Change>),
+    /// Workload 2: each size is found first, low, and what was found is inserted back.
+    Finds(Vec<u64>),
+}
+
+impl Requests {
+    pub fn new(workload: u32, chequer: &Chequer, calls: usize, random: &mut Random) -> Self {
+        let pairs = calls.div_ceil(2);
+        if workload == 1 {
+            return Self::Changes((0..pairs).flat_map(|_| change_and_back(chequer, random)).collect());
+        }
+        let size = |_| stair(random.below(STAIRS as u64) as usize) - 8 * random.below(2);
+        Self::Finds((0..pairs).map(size).collect())
+    }
+
+    pub fn calls(&self) -> usize {
+        match self {
+            Self::Changes(changes) => changes.len(),
+            Self::Finds(sizes) => 2 * sizes.len(),
+        }
+    }
+}
+
+/// Part of a random free range is deleted and inserted again, or a random gap inserted and deleted again.
+fn change_and_back(chequer: &Chequer, random: &mut Random) -> [Change; 2] {
+    let ranges = &chequer.ranges;
+    let insert = random.below(2) == 1;
+    let range = if insert {
+        let i = random.below(ranges.len() as u64 - 1) as usize;
+        Range { base: ranges[i].limit, limit: ranges[i + 1].base }
+    } else {
+        part_of(ranges[random.below(ranges.len() as u64) as usize], random)
+    };
+    [insert, !insert].map(|insert| Change { insert, range })
+}
+
+/// The whole range, its lower or upper half, or all but a word at each end.
+fn part_of(range: Range, random: &mut Random) -> Range {
+    let length = range.limit - range.base;
+    let half = range.base + length / 16 * 8;
+    let part = match random.below(4) {
+        0 => Range { limit: half, ..range },
+        1 => Range { base: half, ..range },
+        2 if length >= 24 => Range { base: range.base + 8, limit: range.limit - 8 },
+        _ => range,
+    };
+    if part.base == part.limit {
+        range
+    } else {
+        part
+    }
+}
+
+/// Plays the requests. Every one must be accepted.
+pub fn play<I, L: Land + Calls<I>>(mut land: L, words: &mut [u64], requests: &Requests) -> L {
+    let mut answers = 0;
+    match requests {
+        Requests::Changes(changes) => {
+            for change in changes {
+                let changed = if change.insert {
+                    Calls::<I>::insert(land, words, change.range)
+                } else {
+                    Calls::<I>::delete(land, words, change.range)
+                };
+                land = changed.land;
+                answers |= changed.answer;
+            }
+        }
+        Requests::Finds(sizes) => {
+            for &size in sizes {
+                let found = Calls::<I>::find_first(land, words, size, MODE_LOW);
+                let changed = Calls::<I>::insert(found.land, words, found.range);
+                land = changed.land;
+                answers |= found.answer | changed.answer;
+            }
+        }
+    }
+    assert_eq!(answers, OK, "a request was refused");
+    land
+}

@@ -1,0 +1,160 @@
+//! All calls of a kind: all sets of a 6-unit arena with all requests, all small memories, all flushes of small sets.
+
+use limbegoru_model::{block, list, set, Arena, BlockHandle, Call, Find, ListHandle, Range};
+
+use crate::compare::Report;
+use crate::lent::Lent;
+use crate::run::Run;
+
+/// The units of the arena.
+const UNITS: u64 = 6;
+
+/// The values of the words that are no descriptor, and of the guards.
+const FILL: u64 = 0x7777_7777_7777_7777;
+
+/// An arena of 6 units.
+fn arena(align: u64) -> Arena {
+    Arena::new(5 * align, (5 + UNITS) * align, align).expect("it keeps the rules")
+}
+
+/// The isolated ranges of the units whose bits are set.
+fn ranges_of(arena: &Arena, bits: u64) -> Vec<Range> {
+    let marked = (0..UNITS).filter(|unit| bits >> unit & 1 == 1);
+    let unit_at = |unit| arena.base() + unit * arena.align();
+    set::isolated(marked.map(|unit| Range::new(unit_at(unit), unit_at(unit + 1))).collect())
+}
+
+/// All inserts and deletes with ends from one unit before the arena to one unit behind it, all finds with sizes from 0
+/// to 7 units and between, all modes and one that is none, and all walks.
+fn calls(arena: &Arena) -> Vec<Call> {
+    let align = arena.align();
+    let ends: Vec<u64> = (0..UNITS + 3).map(|unit| arena.base() - align + unit * align).collect();
+    let mut calls = Vec::new();
+    for base in &ends {
+        for limit in &ends {
+            calls.push(Call::Insert(Range::new(*base, *limit)));
+            calls.push(Call::Delete(Range::new(*base, *limit)));
+        }
+        calls.extend([*base - 1, *base, *base + 1].map(Call::Walk));
+    }
+    let sizes: Vec<u64> = (0..UNITS + 2).map(|unit| unit * align).chain([4, align + 4]).collect();
+    for find in [Find::First, Find::Last, Find::Largest] {
+        for mode in 0..5 {
+            calls.extend(sizes.iter().map(|size| Call::Find(find, *size, mode)));
+        }
+    }
+    calls
+}
+
+/// All sets of a list land with all calls, with grains and without.
+pub fn list_sets(run: &mut Run) -> Result<(), Report> {
+    for align in [8, 16] {
+        let arena = arena(align);
+        let calls = calls(&arena);
+        for bits in 0..1 << UNITS {
+            let ranges = ranges_of(&arena, bits);
+            let mut words = vec![FILL; arena.words() as usize];
+            list::write(&arena, &ranges, &mut words);
+            for call in &calls {
+                let mut lent = Lent::new(&words, &[FILL], &[FILL]);
+                run.list_call(ListHandle::of(&arena, &ranges), &mut lent, call)?;
+            }
+        }
+    }
+    Ok(())
+}
+
+/// All sets of a block land with all calls and the capacities 0 to 3, with an odd last word and without.
+pub fn block_sets(run: &mut Run) -> Result<(), Report> {
+    let arena = arena(8);
+    let calls = calls(&arena);
+    for bits in 0..1 << UNITS {
+        let ranges = ranges_of(&arena, bits);
+        for length in 2 * ranges.len()..8 {
+            let mut nodes = vec![FILL; length];
+            block::write(&ranges, &mut nodes);
+            for call in &calls {
+                let mut lent = Lent::new(&nodes, &[FILL], &[FILL]);
+                run.block_call(BlockHandle::of(&arena, &ranges), &mut lent, call)?;
+            }
+        }
+    }
+    Ok(())
+}
+
+/// The digits of a number.
+fn digits(mut number: usize, alphabet: &[u64], length: usize) -> Vec<u64> {
+    let mut digits = Vec::with_capacity(length);
+    for _ in 0..length {
+        digits.push(alphabet[number % alphabet.len()]);
+        number /= alphabet.len();
+    }
+    digits
+}
+
+/// A walk on all list lands of 3 words whose words, head and counts are of a few values.
+pub fn list_words(run: &mut Run) -> Result<(), Report> {
+    let alphabet = [0, 1, 2, 8, 9, 16, 17, 24, 25, 32, 33];
+    let mut lent = Lent::new(&[0; 3], &[16], &[32]);
+    for number in 0..alphabet.len().pow(3) {
+        lent.words_mut().copy_from_slice(&digits(number, &alphabet, 3));
+        for head in [0, 8, 12, 16, 24, 32] {
+            for counts in 0..16 {
+                let (ranges, bytes) = (counts % 4, counts / 4 * 8);
+                let land = ListHandle { base: 8, limit: 32, align: 8, head, ranges, bytes };
+                run.list_call(land, &mut lent, &Call::Walk(0))?;
+            }
+        }
+    }
+    Ok(())
+}
+
+/// A walk on all block lands of 4 and 5 words whose words and counts are of a few values.
+pub fn block_words(run: &mut Run) -> Result<(), Report> {
+    let alphabet = [0, 8, 12, 16, 24, 32, 40];
+    for odd in [0, 1] {
+        let mut lent = Lent::new(&[7; 5][..4 + odd], &[16], &[32]);
+        for number in 0..alphabet.len().pow(4) {
+            lent.words_mut()[..4].copy_from_slice(&digits(number, &alphabet, 4));
+            for counts in 0..16 {
+                let (ranges, bytes) = (counts % 4, counts / 4 * 8);
+                let land = BlockHandle { base: 8, limit: 32, align: 8, ranges, bytes };
+                run.block_call(land, &mut lent, &Call::Walk(0))?;
+            }
+        }
+    }
+    Ok(())
+}
+
+/// The flushes of all sets into all sets, with the capacities up to 3.
+pub fn flushes(run: &mut Run) -> Result<(), Report> {
+    let arena = arena(8);
+    for bits in 0..1 << UNITS {
+        let listed = ranges_of(&arena, bits);
+        let mut words = vec![FILL; arena.words() as usize];
+        list::write(&arena, &listed, &mut words);
+        for other in 0..1 << UNITS {
+            let tabled = ranges_of(&arena, other);
+            flushes_of(run, &arena, (&listed, &words), &tabled)?;
+        }
+    }
+    Ok(())
+}
+
+/// The flushes of one set into another, with the capacities up to 3.
+fn flushes_of(
+    run: &mut Run,
+    arena: &Arena,
+    (listed, words): (&[Range], &[u64]),
+    tabled: &[Range],
+) -> Result<(), Report> {
+    let (list, block) = (ListHandle::of(arena, listed), BlockHandle::of(arena, tabled));
+    for capacity in tabled.len()..4 {
+        let mut nodes = vec![FILL; 2 * capacity + 1];
+        block::write(tabled, &mut nodes);
+        let mut words = Lent::new(words, &[FILL], &[FILL]);
+        let mut nodes = Lent::new(&nodes, &[FILL], &[FILL]);
+        run.flush((list, &mut words), (block, &mut nodes))?;
+    }
+    Ok(())
+}

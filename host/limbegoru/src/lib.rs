@@ -1,0 +1,114 @@
+//! Limbegoru: sets of free address ranges, for a host in Rust. The calls are those of the proved component, linked from
+//! its archive; this crate adds the borrowing of the words and turns answer numbers into results.
+//!
+//! A land keeps the free ranges of an arena [base, limit). A [`ListLand`] records them inside the free memory, a
+//! [`BlockLand`] in separate node space, and [`flush`] moves them from the first to the second. No call has a
+//! precondition: every handle, every memory and every number is answered, and a refused call changes nothing.
+//!
+//! A host gives out a piece of its memory and takes it back; the second release of the same piece is refused:
+//!
+//! ```
+//! use limbegoru::{ListLand, Mode, Range, Refusal};
+//!
+//! let mut words = [0; 64];
+//! let mut land = ListLand::open(4096, 4096 + 8 * 64, 8, &mut words)?;
+//! land.insert(Range::new(4096, 4096 + 8 * 64))?; // everything is free
+//!
+//! let given = land.find_first(40, Mode::Low)?.range;
+//! land.words_mut()[0] = u64::MAX; // the host's own bytes
+//!
+//! land.insert(given)?; // released
+//! assert_eq!(land.insert(given), Err(Refusal::Overlap)); // released again
+//! assert_eq!(land.handle().bytes, 8 * 64);
+//! # Ok::<(), Refusal>(())
+//! ```
+//!
+//! The archive `libcapi.a` is made by `host/c/build`; `LIMBEGORU_ARCHIVE_DIR` names its folder if it stands elsewhere.
+#![deny(missing_docs)]
+#![deny(unsafe_op_in_unsafe_fn)]
+
+mod block;
+pub mod calls;
+mod handle;
+mod list;
+mod refusal;
+pub mod sys;
+
+use std::iter::FusedIterator;
+
+pub use block::BlockLand;
+pub use handle::{BlockHandle, ListHandle, Mode, Range};
+pub use list::ListLand;
+pub use refusal::Refusal;
+
+/// What a find found.
+#[derive(Clone, Copy, Debug, PartialEq, Eq, Hash)]
+pub struct Found {
+    /// The found range, which is taken out in every mode but none.
+    pub range: Range,
+    /// The isolated range in which it was found.
+    pub old: Range,
+}
+
+/// What a flush did.
+#[derive(Clone, Copy, Debug, PartialEq, Eq, Hash)]
+pub struct Flushed {
+    /// The number of ranges moved.
+    pub moved: u64,
+    /// The refusal of the block land that stopped it; nothing if the list is empty now.
+    pub stop: Option<Refusal>,
+}
+
+/// Moves the list's ranges, in address order, into the block land of the same arena, until none is left or one is
+/// refused; that one stays in the list. No arena word changes.
+///
+/// ```
+/// use limbegoru::{flush, BlockLand, Flushed, ListLand, Range, Refusal};
+///
+/// let (mut words, mut nodes) = ([0; 8], [0; 2]);
+/// let mut list = ListLand::open(4096, 4160, 8, &mut words)?;
+/// list.insert(Range::new(4096, 4104))?;
+/// list.insert(Range::new(4120, 4136))?;
+/// let mut block = BlockLand::open(4096, 4160, 8, &mut nodes)?;
+/// assert_eq!(flush(&mut list, &mut block), Ok(Flushed { moved: 1, stop: Some(Refusal::Full) }));
+/// assert_eq!(list.walk(0), Ok(Range::new(4120, 4136)));
+/// assert_eq!(block.walk(0), Ok(Range::new(4096, 4104)));
+/// # Ok::<(), Refusal>(())
+/// ```
+pub fn flush(list: &mut ListLand<'_>, block: &mut BlockLand<'_>) -> Result<Flushed, Refusal> {
+    let flushed = calls::flush(list.handle(), list.words(), block.handle(), block.words_mut());
+    Refusal::check(flushed.answer)?;
+    list.follow(flushed.list);
+    block.follow(flushed.block);
+    Ok(Flushed { moved: flushed.moved, stop: Refusal::check(flushed.stop).err() })
+}
+
+/// The ranges of a land in address order, each met by a walk from the limit of the one before.
+#[derive(Clone, Debug)]
+pub struct Ranges<W> {
+    walk: W,
+    from: Option<u64>,
+}
+
+impl<W: Fn(u64) -> Result<Range, Refusal>> Ranges<W> {
+    /// Walks from 0 on.
+    fn new(walk: W) -> Ranges<W> {
+        Ranges { walk, from: Some(0) }
+    }
+}
+
+impl<W: Fn(u64) -> Result<Range, Refusal>> Iterator for Ranges<W> {
+    type Item = Result<Range, Refusal>;
+
+    fn next(&mut self) -> Option<Result<Range, Refusal>> {
+        let met = (self.walk)(self.from.take()?);
+        match met {
+            Ok(range) => self.from = Some(range.limit),
+            Err(Refusal::NoneFound) => return None,
+            Err(_) => {}
+        }
+        Some(met)
+    }
+}
+
+impl<W: Fn(u64) -> Result<Range, Refusal>> FusedIterator for Ranges<W> {}

@@ -1,0 +1,65 @@
+//! Refusals, with their numbers and in words.
+
+use std::error::Error;
+use std::fmt;
+
+/// Why a call was refused. Nothing has changed then. The reasons are checked in the order set-up, damaged, request,
+/// overlap or none found, full.
+#[derive(Clone, Copy, Debug, PartialEq, Eq, Hash)]
+pub enum Refusal {
+    /// Insert: some byte is already free. Delete: some byte is not free.
+    Overlap = 1,
+    /// No range qualifies.
+    NoneFound = 2,
+    /// The block land would have more ranges than its capacity.
+    Full = 3,
+    /// The range or the size breaks the rules.
+    Request = 4,
+    /// The handle's fixed fields or the lent lengths break the arena rules; in a flush, also if the two lands differ in
+    /// base, limit or alignment.
+    SetUp = 5,
+    /// The list or table is not sound.
+    Damaged = 6,
+}
+
+impl Refusal {
+    /// All refusals, in the order of their numbers.
+    pub const ALL: [Refusal; 6] =
+        [Refusal::Overlap, Refusal::NoneFound, Refusal::Full, Refusal::Request, Refusal::SetUp, Refusal::Damaged];
+
+    /// Its answer number, 1 to 6.
+    pub const fn number(self) -> u64 {
+        self as u64
+    }
+
+    /// The refusal of an answer number; nothing for 0, which is accepted, and for a number that is no answer.
+    pub fn from_number(number: u64) -> Option<Refusal> {
+        Refusal::ALL.into_iter().find(|refusal| refusal.number() == number)
+    }
+
+    /// The answer as a result.
+    pub(crate) fn check(answer: u64) -> Result<(), Refusal> {
+        match Refusal::from_number(answer) {
+            Some(refusal) => Err(refusal),
+            None => {
+                assert_eq!(answer, 0, "the component answers 0 to 6");
+                Ok(())
+            }
+        }
+    }
+}
+
+impl fmt::Display for Refusal {
+    fn fmt(&self, f: &mut fmt::Formatter<'_>) -> fmt::Result {
+        f.write_str(match self {
+            Refusal::Overlap => "memory was released that is already free, or taken that is not free",
+            Refusal::NoneFound => "there is no free piece of memory of that size",
+            Refusal::Full => "the table of free pieces has no room for another piece",
+            Refusal::Request => "the piece or the size asked for is not allowed in this memory",
+            Refusal::SetUp => "the memory was not set up with the right limits or the right length",
+            Refusal::Damaged => "the record of free memory has been overwritten",
+        })
+    }
+}
+
+impl Error for Refusal {}

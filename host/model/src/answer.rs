@@ -1,0 +1,16 @@
+//! Answer numbers, checked in the order 5, 6, 4, 1 or 2, 3.
+
+/// Accepted.
+pub const ACCEPTED: u64 = 0;
+/// Insert: some byte is already free. Delete: some byte is not free.
+pub const OVERLAP: u64 = 1;
+/// No range qualifies.
+pub const NONE_FOUND: u64 = 2;
+/// The set would afterwards have more ranges than the capacity.
+pub const FULL: u64 = 3;
+/// The range or size (or the mode's number) breaks the rules.
+pub const REQUEST: u64 = 4;
+/// The fixed handle fields or lent lengths break the arena rules.
+pub const SET_UP: u64 = 5;
+/// List or table not sound.
+pub const DAMAGED: u64 = 6;

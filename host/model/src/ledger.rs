@@ -1,0 +1,158 @@
+//! The ledger of demand 3.
+//!
+//! The ledger is fed the set's arena and alignment, a block land's capacity, and in turn each insert, delete and find
+//! with its range, or its size and mode; it sees no answer, no handle and no word. It marks bytes of the arena: one
+//! mark stands for the bytes of one unit of the alignment, since no call that keeps the rules divides a unit.
+
+use crate::arena::{Arena, Range};
+use crate::call::{Find, MODE_ENTIRE, MODE_HIGH, MODE_LOW, MODE_NONE};
+
+/// What a step of the ledger gives.
+#[derive(Clone, Copy, Debug, Default, PartialEq, Eq)]
+pub struct Entry {
+    /// The answer number.
+    pub answer: u64,
+    /// The range of the step; of a find, the found range.
+    pub range: Range,
+    /// The old range of a find; (0, 0) of the other steps.
+    pub old: Range,
+}
+
+impl Entry {
+    /// A refused step returns ranges (0, 0).
+    fn refused(answer: u64) -> Entry {
+        Entry { answer, ..Entry::default() }
+    }
+}
+
+/// The marks of a set's arena.
+#[derive(Clone, Debug)]
+pub struct Ledger {
+    arena: Arena,
+    capacity: Option<u64>,
+    marks: Vec<bool>,
+}
+
+impl Ledger {
+    /// After an accepted opening no byte is marked. Only a block land has a capacity.
+    pub fn new(arena: Arena, capacity: Option<u64>) -> Ledger {
+        let units = arena.length() / arena.align();
+        Ledger { arena, capacity, marks: vec![false; units as usize] }
+    }
+
+    /// Is the byte at the address marked? No byte outside the arena is.
+    pub fn marked(&self, address: u64) -> bool {
+        let inside = self.arena.base() <= address && address < self.arena.limit();
+        inside && self.marks[self.unit(address)]
+    }
+
+    /// The isolated ranges in address order.
+    pub fn isolated(&self) -> Vec<Range> {
+        let starts = |i: &usize| self.marks[*i] && (*i == 0 || !self.marks[*i - 1]);
+        let first_units = (0..self.marks.len()).filter(starts);
+        first_units.map(|i| self.around(&self.marks, i)).collect()
+    }
+
+    /// Insert: 1 if a byte of the range is marked. Otherwise it marks the range and returns the isolated range that
+    /// then contains it.
+    pub fn insert(&mut self, range: Range) -> Entry {
+        if !self.arena.allows_range(range) {
+            return Entry::refused(4);
+        }
+        let units = self.unit(range.base)..self.unit(range.limit);
+        if self.marks[units.clone()].contains(&true) {
+            return Entry::refused(1);
+        }
+        let mut marks = self.marks.clone();
+        marks[units.clone()].fill(true);
+        let range = self.around(&marks, units.start);
+        self.leave(marks, range, Range::NOTHING)
+    }
+
+    /// Delete: 1 if a byte of the range is not marked. Otherwise it returns the isolated range that contains it, and
+    /// unmarks the bytes asked for.
+    pub fn delete(&mut self, range: Range) -> Entry {
+        if !self.arena.allows_range(range) {
+            return Entry::refused(4);
+        }
+        let units = self.unit(range.base)..self.unit(range.limit);
+        if self.marks[units.clone()].contains(&false) {
+            return Entry::refused(1);
+        }
+        let containing = self.around(&self.marks, units.start);
+        let mut marks = self.marks.clone();
+        marks[units].fill(false);
+        self.leave(marks, containing, Range::NOTHING)
+    }
+
+    /// Finds: 2 if no isolated range qualifies. Otherwise they choose and return as under Calls, and unmark the found
+    /// range in every mode but *none*.
+    pub fn find(&mut self, find: Find, size: u64, mode: u64) -> Entry {
+        if !self.arena.allows_size(size, find == Find::Largest) || mode > MODE_ENTIRE {
+            return Entry::refused(4);
+        }
+        let Some(old) = self.chosen(find, size) else {
+            return Entry::refused(2);
+        };
+        let mut found = old;
+        if find != Find::Largest && mode == MODE_LOW {
+            found.limit = old.base + size;
+        }
+        if find != Find::Largest && mode == MODE_HIGH {
+            found.base = old.limit - size;
+        }
+        let mut marks = self.marks.clone();
+        if mode != MODE_NONE {
+            marks[self.unit(found.base)..self.unit(found.limit)].fill(false);
+        }
+        self.leave(marks, found, old)
+    }
+
+    /// The number of the unit that begins at the address, or holds it.
+    fn unit(&self, address: u64) -> usize {
+        ((address - self.arena.base()) / self.arena.align()) as usize
+    }
+
+    /// The isolated range of these marks around a marked unit.
+    fn around(&self, marks: &[bool], unit: usize) -> Range {
+        let mut first = unit;
+        while first > 0 && marks[first - 1] {
+            first -= 1;
+        }
+        let mut behind = unit;
+        while behind < marks.len() && marks[behind] {
+            behind += 1;
+        }
+        let address = |unit: usize| self.arena.base() + unit as u64 * self.arena.align();
+        Range::new(address(first), address(behind))
+    }
+
+    /// The isolated range that a find chooses: the ranges are gone through in address order.
+    fn chosen(&self, find: Find, size: u64) -> Option<Range> {
+        let mut chosen: Option<Range> = None;
+        for range in self.isolated() {
+            let better = match (find, chosen) {
+                (_, None) => true,
+                (Find::First, Some(_)) => false,
+                (Find::Last, Some(_)) => true,
+                (Find::Largest, Some(longest)) => range.length() > longest.length(),
+            };
+            if better && range.length() >= size {
+                chosen = Some(range);
+            }
+        }
+        chosen
+    }
+
+    /// In a block land, a step that would leave more isolated ranges than the capacity answers 3 instead. Any other
+    /// step answers 0.
+    fn leave(&mut self, marks: Vec<bool>, range: Range, old: Range) -> Entry {
+        let begins = |i: &usize| marks[*i] && (*i == 0 || !marks[*i - 1]);
+        let count = (0..marks.len()).filter(begins).count() as u64;
+        if self.capacity.is_some_and(|capacity| count > capacity) {
+            return Entry::refused(3);
+        }
+        self.marks = marks;
+        Entry { answer: 0, range, old }
+    }
+}
