@@ -3,6 +3,8 @@ pub mod Filling
 pub mod Canonical
 pub mod Writing
 pub mod Zeros
+pub mod Tallying
+pub mod Ascending
 pub mod Scanning
 pub mod Sound
 pub mod Surveying

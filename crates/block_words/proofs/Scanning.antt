@@ -1,191 +1,122 @@
--- The scan over the pairs: a tally one range further on, what holds at each turn of the loop of `scan`, and the ways out. Assumes nothing.
-use Prim.Native.Nat.{ℕ, suc, _+_, _-_, _*_, _/_, _≤_, _<_}
-use mathlib.Core.Bool.{Bool, true, false, not, cond, _&&_}
-use mathlib.Core.List.{List, [], _∷_}
-use mathlib.Core.Path.{_≡_, sym, _∙_, ap, ap₂}
+-- The scan over the pairs: what holds at each turn of its loops, and their ways out. Assumes nothing.
+use Prim.Native.Nat.{ℕ, _+_, _-_, _*_, _/_, _≤_, _<_}
+use mathlib.Core.Bool.{Bool, true, false, cond}
+use mathlib.Core.List.{List, _∷_}
+use mathlib.Core.Path.{_≡_, refl, sym, _∙_, ap, ap₂}
 use native.Mathlib.Omega.{arith}
-use types.Run.{OneOf}
-use denote.Enum.Declared.{tagOf}
-use lib.Dec.{eqb}
-use lib.ListN.{length, getD, drop}
-use borrow.Author.Tests.{eq-eqb, ne-eqb, eqb-true, eqb-false}
-use Rattle.units.specs.Rules.{goodAlign, rangeCheck, goodRange}
-use Rattle.units.specs.Words.{rangeOf}
-use Rattle.units.specs.Aims.{none-range, Sized, takes}
-use Rattle.units.specs.declared.Addr.{Addr}
-use Rattle.units.specs.declared.Align.{Align}
+use lib.ListN.{length, drop}
+use Rattle.units.specs.Aims.{Sized, takes}
 use Rattle.units.specs.declared.Range.{Range}
 use Rattle.units.specs.declared.Size.{Size}
 use Rattle.units.specs.declared.aims.Aim.{Aim}
 use Rattle.units.specs.declared.rules.Arena.{Arena}
-use Rattle.units.specs.declared.rules.RangeCheck.{RangeCheck}
-use Rattle.units.proofs.Tests.{by}
-use Rattle.units.proofs.Alignments.{align-positive}
-use Rattle.units.proofs.Ways.{said-true, said-false}
-use Rattle.units.proofs.Cases.{bad-range}
-use Rattle.units.proofs.Facts.{GoodArena, arena-facts, GoodRange, range-facts}
-use Rattle.units.proofs.rules.RangeCheck.{the-type}
+use Rattle.units.proofs.Tests.{by, conj}
+use Rattle.units.proofs.Facts.{arena-facts}
 use Rattle.model.specs.Marks as marks
-use Rattle.model.specs.Marks.{struct, plain, size}
-use Rattle.model.specs.Lists.{total}
-use Rattle.model.specs.Picks.{picked}
-use Rattle.block_words.specs.Words.{pairs, canonical}
-use Rattle.block_words.specs.Surveys.{pairAt, Ready, Near, onward, scanOf}
+use Rattle.model.specs.Marks.{plain}
+use Rattle.block_words.specs.Words.{pairs}
+use Rattle.block_words.specs.Surveys.{pairAt, pairBits, Ready, startOf, follows, onward, stepOf, keeping, verdictOf, scanOf}
+use Rattle.block_words.specs.declared.Step.{Step}
 use Rattle.block_words.specs.declared.Tally.{Tally}
 use Rattle.block_words.specs.declared.Verdict.{Verdict}
 use Rattle.block_words.proofs.Pairs.{pairs-at, pairs-end}
-
--- a pair from its words
-pub pair-of : (ws : List ℕ) (i : ℕ) (b l : Addr) → b .0 ≡ getD ws (2 * i) 0 → l .0 ≡ getD ws (2 * i + 1) 0 →
-    (r : Range) → r ≡ rangeOf (b .0) (l .0) → r ≡ pairAt ws i
-pair-of ws i b l eb el r er = er ∙ ap₂ rangeOf eb el
-
--- the ways out of `Tally::on`
-module _ (t : Tally) (aim : Aim) (r : Range) where
-  pub near-sized : Near t r → Sized (t .kept) r
-  near-sized h = record { kept-order = h .kept; here-order = h .order }
-
-  module _ (z : Size) (ez : z .0 ≡ r .limit .0 - r .base .0) where
-    pub near-bytes : Near t r → t .bytes .0 + z .0 < 18446744073709551616
-    near-bytes h = rw ez (h .bytes)
-
-    module _ (w : Addr) (ew : w .0 ≡ r .limit .0 + 1) (b : Size) (eb : b .0 ≡ t .bytes .0 + z .0) (g : Bool) (eg : g ≡ takes aim (t .kept) r) where
-      moved : (k : Range) → k ≡ cond (takes aim (t .kept) r) r (t .kept) → record { low = w; bytes = b; kept = k } ≡ onward t aim r
-      moved k ek =
-          let eb' = eb ∙ ap (λ (x : ℕ). t .bytes .0 + x) ez in
-          λ i. record { low = record { 0 = ew i }; bytes = record { 0 = eb' i }; kept = ek i }
-
-      pub on-taken : g ≡ true → record { low = w; bytes = b; kept = r } ≡ onward t aim r
-      on-taken f = moved r (rw (sym eg ∙ f))
-
-      pub on-left : g ≡ false → record { low = w; bytes = b; kept = t .kept } ≡ onward t aim r
-      on-left f = moved (t .kept) (rw (sym eg ∙ f))
-
-pub ruleset moves = (near-sized, near-bytes, on-taken, on-left)
-
--- what a scan finds of the ranges from a tally on, in an arena that ends at hi
-module _ (hi a bytes : ℕ) (aim : Aim) where
-  abbrev scanFrom : Tally → List marks.Range → Verdict
-  scanFrom t rs =
-      cond (canonical (t .low .0) hi a rs && eqb bytes (t .bytes .0 + total rs)) (Verdict.Sound (picked aim (t .kept) rs)) Verdict.Damaged
-
-  module _ (t : Tally) (r : marks.Range) (rs : List marks.Range) where
-    scan-off : goodRange (rangeCheck (t .low .0) hi a (r .base) (r .limit)) ≡ false → scanFrom t (r ∷ rs) ≡ Verdict.Damaged
-    scan-off e = rw e
-
-    scan-on : goodRange (rangeCheck (t .low .0) hi a (r .base) (r .limit)) ≡ true → scanFrom t (r ∷ rs) ≡ scanFrom (onward t aim (struct r)) rs
-    scan-on e =
-        let w : suc (r .limit) ≡ r .limit + 1 = omega arith in
-        let s : t .bytes .0 + (size r + total rs) ≡ t .bytes .0 + size r + total rs = omega arith in
-        rw (e, w, s)
+use Rattle.block_words.proofs.Ascending.{scanFrom, scan-whole}
 
 -- where the scan stands: what it finds from here on is what it finds of the whole
-pub record Scanned (arena : Arena) (ws : List ℕ) (n : ℕ) (bytes : Size) (aim : Aim) (a : Align) (t : Tally) (i : ℕ) : Type 0 where
+pub record Scanned (arena : Arena) (ws : List ℕ) (n : ℕ) (bytes : Size) (aim : Aim) (t : Tally) (i : ℕ) : Type 0 where
   pub good : Ready arena
   pub fits : n ≤ length ws / 2
-  pub same : a .0 ≡ arena .align .0
   pub upto : i ≤ n
-  pub past : arena .base .0 + t .bytes .0 ≤ t .low .0
-  pub top : t .low .0 ≤ arena .limit .0 + 1
+  pub room : t .bytes .0 ≤ t .past .0
   pub order : t .kept .base .0 ≤ t .kept .limit .0
-  pub rest : scanFrom (arena .limit .0) (arena .align .0) (bytes .0) aim t (pairs (drop (2 * i) ws) (n - i)) ≡ scanOf arena ws n bytes aim
+  pub rest : scanFrom arena bytes aim t (pairs (drop (2 * i) ws) (n - i)) ≡ scanOf arena ws n bytes aim
+
+-- what a step answered
+abbrev isGood : Step → Bool
+isGood Step.Damaged = false
+isGood (Step.Good t) = true
+
+abbrev tallyIn : Tally → Step → Tally
+tallyIn t Step.Damaged = t
+tallyIn t (Step.Good u) = u
+
+good-step : (f : Bool) (t : Tally) → isGood (cond f (Step.Good t) Step.Damaged) ≡ f
+good-step true t = refl
+good-step false t = refl
+
+module _ (t : Tally) (ws : List ℕ) (i : ℕ) (v : Step) (ev : v ≡ stepOf t ws i) where
+  answered : isGood v ≡ follows t (pairAt ws i)
+  answered = ap isGood ev ∙ good-step (follows t (pairAt ws i)) (onward t (pairBits ws i) (pairAt ws i))
+
+  step-on : follows t (pairAt ws i) ≡ true → (u : Tally) → v ≡ Step.Good u → u ≡ onward t (pairBits ws i) (pairAt ws i)
+  step-on f u e =
+      let h : v ≡ Step.Good (onward t (pairBits ws i) (pairAt ws i)) = rw f at ev in
+      ap (tallyIn t) (sym e ∙ h)
 
 kept-ordered : (t : Tally) (aim : Aim) (r : Range) → t .kept .base .0 ≤ t .kept .limit .0 → r .base .0 ≤ r .limit .0 →
-    onward t aim r .kept .base .0 ≤ onward t aim r .kept .limit .0
+    keeping t aim r .kept .base .0 ≤ keeping t aim r .kept .limit .0
 kept-ordered t aim r g h = by (takes aim (t .kept) r) (λ e. rw e h) (λ e. rw e g)
 
 module _ (arena : Arena) (ws : List ℕ) (n : ℕ) (bytes : Size) (aim : Aim) where
-  facts : Ready arena → GoodArena (arena .base .0) (arena .limit .0) (arena .align .0)
-  facts g = arena-facts (arena .base .0) (arena .limit .0) (arena .align .0) g
+  pub scan-start : Ready arena → n ≤ length ws / 2 → (t : Tally) → t ≡ startOf arena → Scanned arena ws n bytes aim t 0
+  unfolding scanOf
+  scan-start g f t e =
+      let y : n - 0 ≡ n = omega arith in
+      let w = scan-whole arena bytes aim (arena-facts (arena .base .0) (arena .limit .0) (arena .align .0) g) (pairs ws n) in
+      rw e (record { good = g; fits = f; upto = omega arith; room = omega arith; order = omega arith; rest = rw y w })
 
-  pub scan-align : Ready arena → goodAlign (arena .align .0) ≡ true
-  scan-align g = facts g .align
+  module _ (t : Tally) (i : ℕ) (s : Scanned arena ws n bytes aim t i) where
+    -- a pair comes
+    module _ (k : i < n) (v : Step) (ev : v ≡ stepOf t ws i) where
+      from : scanFrom arena bytes aim t (plain (pairAt ws i) ∷ pairs (drop (2 * (i + 1)) ws) (n - (i + 1))) ≡ scanOf arena ws n bytes aim
+      from = rw (pairs-at ws n i k (s .fits)) at (s .rest)
 
-  module _ (a : Align) where
-    pub scan-start : Ready arena → n ≤ length ws / 2 → a .0 ≡ arena .align .0 → (z : Size) → z .0 ≡ 0 → (k : Range) → k ≡ none-range →
-        Scanned arena ws n bytes aim a (record { low = arena .base; bytes = z; kept = k }) 0
-    unfolding scanOf
-    scan-start g f e z ez k ek =
-        let q = facts g in
-        let y : n - 0 ≡ n = omega arith in
-        let w : 0 + total (pairs ws n) ≡ total (pairs ws n) = omega arith in
-        record {
-          good = g;
-          fits = f;
-          same = e;
-          upto = omega arith;
-          past = omega arith;
-          top = omega arith;
-          order = rw ek (omega arith);
-          rest = rw (ek, ez, y, w);
-        }
+      pub scan-broken : v ≡ Step.Damaged → Verdict.Damaged ≡ scanOf arena ws n bytes aim
+      scan-broken e =
+          let f : follows t (pairAt ws i) ≡ false = sym (answered t ws i v ev) ∙ ap isGood e in
+          rw f at from
 
-    module _ (t : Tally) (i : ℕ) (s : Scanned arena ws n bytes aim a t i) where
-      pub scan-positive : 0 < a .0
-      scan-positive = rw (s .same) (align-positive (arena .align .0) (facts (s .good) .align))
+      module _ (u : Tally) (e : v ≡ Step.Good u) (r : Range) (er : r ≡ pairAt ws i) where
+        behind : follows t (pairAt ws i) ≡ true
+        behind = sym (answered t ws i v ev) ∙ ap isGood e
 
-      -- a pair comes
-      module _ (k : i < n) (r : Range) (er : r ≡ pairAt ws i) (v : RangeCheck)
-          (ev : v ≡ rangeCheck (t .low .0) (arena .limit .0) (a .0) (r .base .0) (r .limit .0)) where
-        abbrev those : List marks.Range
-        those = pairs (drop (2 * (i + 1)) ws) (n - (i + 1))
+        ordered : pairAt ws i .base .0 < pairAt ws i .limit .0
+        ordered = let f = behind in search conj depth 8
 
-        here : pairs (drop (2 * i) ws) (n - i) ≡ plain r ∷ those
-        here = pairs-at ws n i k (s .fits) ∙ ap (λ (x : Range). plain x ∷ those) (sym er)
+        pub scan-sized : Sized (u .kept) r
+        scan-sized =
+            let o = ordered in
+            rw (step-on t ws i v ev behind u e, er) (record { kept-order = s .order; here-order = omega arith })
 
-        judged : goodRange (rangeCheck (t .low .0) (arena .limit .0) (arena .align .0) (r .base .0) (r .limit .0)) ≡ goodRange v
-        judged = ap (λ (x : ℕ). goodRange (rangeCheck (t .low .0) (arena .limit .0) x (r .base .0) (r .limit .0))) (sym (s .same)) ∙ ap goodRange (sym ev)
+        pub scan-next : (w : Tally) → w ≡ keeping u aim r → Scanned arena ws n bytes aim w (i + 1)
+        scan-next w ew =
+            let f = behind in
+            let o = ordered in
+            let p : t .past .0 < pairAt ws i .base .0 = search conj depth 8 in
+            let x = onward t (pairBits ws i) (pairAt ws i) in
+            let m : w ≡ keeping x aim (pairAt ws i) = ew ∙ ap₂ (λ (y : Tally) (z : Range). keeping y aim z) (step-on t ws i v ev f u e) er in
+            rw m
+            (record {
+              good = s .good;
+              fits = s .fits;
+              upto = omega arith;
+              room = omega arith;
+              order = kept-ordered x aim (pairAt ws i) (s .order) (omega arith);
+              rest = rw f at from;
+            })
 
-        from : scanFrom (arena .limit .0) (arena .align .0) (bytes .0) aim t (plain r ∷ those) ≡ scanOf arena ws n bytes aim
-        from = rw here at (s .rest)
+    -- none comes
+    pub scan-end : n ≤ i → (v : Verdict) → v ≡ verdictOf arena bytes t → v ≡ scanOf arena ws n bytes aim
+    scan-end k v e = e ∙ (rw (pairs-end ws n i k) at (s .rest))
 
-        pub scan-broken : OneOf (1 ∷ 2 ∷ 3 ∷ 4 ∷ []) (tagOf the-type v) → Verdict.Damaged ≡ scanOf arena ws n bytes aim
-        scan-broken g =
-            sym (scan-off (arena .limit .0) (arena .align .0) (bytes .0) aim t (plain r) those (judged ∙ bad-range v g)) ∙ from
+-- a scan that keeps nothing
+module _ (arena : Arena) (ws : List ℕ) (n : ℕ) (bytes : Size) (t : Tally) (i : ℕ) (s : Scanned arena ws n bytes Aim.Nothing t i) where
+  pub scan-on : i < n → (v : Step) → v ≡ stepOf t ws i → (u : Tally) → v ≡ Step.Good u → Scanned arena ws n bytes Aim.Nothing u (i + 1)
+  scan-on k v ev u e = scan-next arena ws n bytes Aim.Nothing t i s k v ev u e (pairAt ws i) refl u refl
 
-        module _ (g : v ≡ RangeCheck.Good) where
-          good : goodRange (rangeCheck (t .low .0) (arena .limit .0) (arena .align .0) (r .base .0) (r .limit .0)) ≡ true
-          good = judged ∙ ap goodRange g
+pub ruleset scans = (scan-start, scan-broken, scan-sized, scan-next, scan-on, scan-end)
 
-          within : GoodRange (t .low .0) (arena .limit .0) (arena .align .0) (r .base .0) (r .limit .0)
-          within = range-facts (t .low .0) (arena .limit .0) (arena .align .0) (r .base .0) (r .limit .0) good
-
-          pub scan-near : Near t r
-          scan-near =
-              let f = within in
-              let q = facts (s .good) in
-              record { order = omega arith; end = omega arith; bytes = omega arith; kept = s .order }
-
-          pub scan-next : (t' : Tally) → t' ≡ onward t aim r → Scanned arena ws n bytes aim a t' (i + 1)
-          scan-next t' et =
-              let f = within in
-              rw et
-              (record {
-                good = s .good;
-                fits = s .fits;
-                same = s .same;
-                upto = omega arith;
-                past = omega arith;
-                top = omega arith;
-                order = kept-ordered t aim r (s .order) (omega arith);
-                rest = sym (scan-on (arena .limit .0) (arena .align .0) (bytes .0) aim t (plain r) those good) ∙ from;
-              })
-
-      -- none comes
-      module _ (k : n ≤ i) (u : Bool) (eu : u ≡ eqb (t .bytes .0) (bytes .0)) where
-        done : (w : Bool) → eqb (bytes .0) (t .bytes .0) ≡ w → cond w (Verdict.Sound (t .kept)) Verdict.Damaged ≡ scanOf arena ws n bytes aim
-        done w e =
-            let y : t .bytes .0 + 0 ≡ t .bytes .0 = omega arith in
-            rw (pairs-end ws n i k, y, e) at (s .rest)
-
-        pub scan-short : not u ≡ true → Verdict.Damaged ≡ scanOf arena ws n bytes aim
-        scan-short f =
-            let q = eqb-false (t .bytes .0) (bytes .0) (said-false u (eqb (t .bytes .0) (bytes .0)) eu f) in
-            done false (ne-eqb (bytes .0) (t .bytes .0) (λ x. q (sym x)))
-
-        pub scan-sound : not u ≡ false → Verdict.Sound (t .kept) ≡ scanOf arena ws n bytes aim
-        scan-sound f =
-            let q = eqb-true (t .bytes .0) (bytes .0) (said-true u (eqb (t .bytes .0) (bytes .0)) eu f) in
-            done true (eq-eqb (bytes .0) (t .bytes .0) (sym q))
-
-pub ruleset scans = (scan-align, scan-start, scan-positive, scan-broken, scan-near, scan-next, scan-short, scan-sound)
+-- the loop for an aim
+pub scan-aimed : (arena : Arena) (ws : List ℕ) (n : ℕ) (bytes : Size) (a aim : Aim) → aim ≡ a → (v : Verdict) → v ≡ scanOf arena ws n bytes a →
+    v ≡ scanOf arena ws n bytes aim
+scan-aimed arena ws n bytes a aim e v f = rw e f

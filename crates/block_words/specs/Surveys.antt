@@ -1,12 +1,12 @@
 -- What the scan over the whole table finds and keeps: contracts of inner functions. Assumes nothing.
-use Prim.Native.Nat.{ℕ, _+_, _-_, _*_, _≤_, _<_}
-use mathlib.Core.Bool.{cond, _&&_}
+use Prim.Native.Nat.{ℕ, _+_, _-_, _*_}
+use mathlib.Core.Bool.{Bool, cond, _&&_}
 use mathlib.Core.List.{List}
 use mathlib.Core.Path.{_≡_}
 use lib.Bits.{bitOr}
-use lib.Dec.{eqb}
+use lib.Dec.{eqb, ltb, leb}
 use lib.ListN.{getD}
-use Rattle.units.specs.Rules.{arenaCheck}
+use Rattle.units.specs.Rules.{multiple, arenaCheck}
 use Rattle.units.specs.Words.{addr, rangeOf}
 use Rattle.units.specs.Aims.{none-range, length-of, takes}
 use Rattle.units.specs.declared.Range.{Range}
@@ -17,6 +17,7 @@ use Rattle.units.specs.declared.rules.ArenaCheck.{ArenaCheck}
 use Rattle.model.specs.Lists.{total}
 use Rattle.model.specs.Picks.{picked}
 use Rattle.block_words.specs.Words.{pairs, canonical, soundTable}
+use Rattle.block_words.specs.declared.Step.{Step}
 use Rattle.block_words.specs.declared.Tally.{Tally}
 use Rattle.block_words.specs.declared.Verdict.{Verdict}
 
@@ -35,20 +36,41 @@ fourBits ws i = bitOr (bitOr (pairBits ws i) (pairBits ws (i + 1))) (bitOr (pair
 abbrev pub Ready : Arena → Type 0
 Ready a = arenaCheck (a .base .0) (a .limit .0) (a .align .0) ≡ ArenaCheck.Good
 
--- A range follows a tally, and no number grows too large.
-pub record Near (t : Tally) (r : Range) : Type 0 where
-  pub order : r .base .0 ≤ r .limit .0
-  pub end : r .limit .0 < 18446744073709551615
-  pub bytes : t .bytes .0 + (r .limit .0 - r .base .0) < 18446744073709551616
-  pub kept : t .kept .base .0 ≤ t .kept .limit .0
+-- Before the first pair, as if one had ended right below the arena.
+abbrev pub startOf : Arena → Tally
+startOf a = record { past = addr (a .base .0 - 1); bits = 0; bytes = record { 0 = 0 }; kept = none-range }
 
--- A tally one range further on.
-abbrev pub onward : Tally → Aim → Range → Tally
-onward t aim r = record {
-  low = addr (r .limit .0 + 1);
+-- A range stands above the one before, and is not empty.
+abbrev pub follows : Tally → Range → Bool
+follows t r = ltb (t .past .0) (r .base .0) && ltb (r .base .0) (r .limit .0)
+
+-- A tally one range further on, whose words are given OR-ed.
+abbrev pub onward : Tally → ℕ → Range → Tally
+onward t bits r = record {
+  past = r .limit;
+  bits = bitOr (t .bits) bits;
   bytes = record { 0 = t .bytes .0 + length-of r };
+  kept = t .kept;
+}
+
+-- What a scan finds of pair i.
+abbrev pub stepOf : Tally → List ℕ → ℕ → Step
+stepOf t ws i = cond (follows t (pairAt ws i)) (Step.Good (onward t (pairBits ws i) (pairAt ws i))) Step.Damaged
+
+-- A tally that keeps a range, if the aim takes it.
+abbrev pub keeping : Tally → Aim → Range → Tally
+keeping t aim r = record {
+  past = t .past;
+  bits = t .bits;
+  bytes = t .bytes;
   kept = cond (takes aim (t .kept) r) r (t .kept);
 }
+
+-- What is found behind the last pair.
+abbrev pub verdictOf : Arena → Size → Tally → Verdict
+verdictOf a bytes t =
+    cond (leb (t .past .0) (a .limit .0) && (multiple (a .align .0) (t .bits) && eqb (bytes .0) (t .bytes .0)))
+    (Verdict.Sound (t .kept)) Verdict.Damaged
 
 -- What a scan of the first n pairs finds.
 unfoldable pub scanOf : Arena → List ℕ → ℕ → Size → Aim → Verdict
