@@ -4,14 +4,14 @@ use mathlib.Core.Bool.{Bool, true, false, not, and-false}
 use mathlib.Core.List.{List}
 use mathlib.Core.Path.{_≡_, sym, _∙_, ap₂}
 use native.Mathlib.Omega.{arith}
-use lib.ListN.{length, getD, List·getD-eq-default}
+use lib.ListN.{length, getD}
 use lib.Dec.{eqb, leb, ltb}
-use borrow.Author.Tests.{le-leb, lt-leb, ltb-true, ltb-false}
+use borrow.Author.Tests.{le-leb, lt-leb, leb-true, ltb-true, ltb-false}
 use Rattle.units.specs.Words.{wordNumber, mayBegin, mayEnd, addr}
 use Rattle.units.specs.declared.Addr.{Addr}
 use Rattle.units.specs.declared.Size.{Size}
 use Rattle.units.specs.declared.rules.Arena.{Arena}
-use Rattle.units.proofs.Tests.{conj}
+use Rattle.units.proofs.Tests.{by, conj}
 use Rattle.units.proofs.Ways.{said-true, said-false}
 use Rattle.units.proofs.Facts.{arena-facts}
 use Rattle.units.proofs.Alignments.{align-positive, multiple-8}
@@ -50,6 +50,7 @@ pub record Begun (a : Arena) (n x : ℕ) : Type 0 where
   pub upto : x < a .limit .0
   pub top : a .limit .0 ≤ 1099511627776
   pub word : wordNumber (a .base .0) x < n
+  pub words : wordNumber (a .base .0) (a .limit .0) ≡ n
   pub align : 0 < a .align .0
 
 pub begun : (a : Arena) (n : ℕ) → Ready a n → (low x : ℕ) → a .base .0 ≤ low → (r : Bool) → r ≡ mayBegin (a .limit .0) (a .align .0) low x →
@@ -60,7 +61,13 @@ begun a n i low x o r e f =
     let m = said-true r (mayBegin (a .limit .0) (a .align .0) low x) e f in
     let u : low ≤ x = search conj depth 8 in
     let v : x < a .limit .0 = search conj depth 8 in
-    record { from = omega arith; upto = v; top = p .top; word = omega arith; align = p .align }
+    record { from = omega arith; upto = v; top = p .top; word = omega arith; words = p .words; align = p .align }
+
+-- the second word of a block is inside the arena
+pub second-word : (a : Arena) (n x : ℕ) → Begun a n x → (i : ℕ) → i ≡ wordNumber (a .base .0) x → (z : Size) → z .0 ≡ 16 → (v : Addr) → v .0 ≡ x + z .0 →
+    (k : Bool) → k ≡ ltb (a .limit .0) (v .0) → k ≡ false → i + 1 < n
+second-word a n x g i ei z ez v ev k ek fk =
+    let h : v .0 ≤ a .limit .0 = ltb-false (a .limit .0) (v .0) (sym ek ∙ fk) in omega arith
 
 -- each way out of `step`, from what its calls answered and its branches tell
 module _ (b l a : ℕ) (ws : List ℕ) (low x : ℕ) where
@@ -102,44 +109,49 @@ module _ (b l a : ℕ) (ws : List ℕ) (low x : ℕ) where
       second : wordNumber b (x + 8) ≡ i + 1
       second = omega arith
 
-      -- its second word is outside the arena
-      pub step-outside : length ws ≤ i + 1 → Met.BadDescriptor ≡ stepAt b l a ws low x
-      unfolding stepAt
-      step-outside h =
-          let d : wordAt b l a ws (x + 8) ≡ 0 = List·getD-eq-default ws 0 (omega (arith, second)) in
-          let m : leb (x + 16) (wordAt b l a ws (x + 8)) ≡ false = lt-leb (x + 16) (wordAt b l a ws (x + 8)) (omega arith) in
-          simp (begins, untagged, m, and-false)
+      module _ (z : Size) (v : Addr) (ez : z .0 ≡ 16) (ev : v .0 ≡ x + z .0) where
+        least : v .0 ≡ x + 16
+        least = cc
 
-      module _ (y : Addr) (ey : y .0 ≡ getD ws (i + 1) 0) (s : Bool) (es : s ≡ mayEnd l a (y .0)) where
-        block-end : y .0 ≡ wordAt b l a ws (x + 8)
-        block-end = cc second
+        -- it does not fit below the limit
+        pub step-outside : (k : Bool) → k ≡ ltb l (v .0) → k ≡ true → Met.BadDescriptor ≡ stepAt b l a ws low x
+        unfolding stepAt mayEnd
+        step-outside k ek fk =
+            let h = ltb-true l (v .0) (sym ek ∙ fk) in
+            by (leb (x + 16) (wordAt b l a ws (x + 8)))
+            (λ m. let n : leb (wordAt b l a ws (x + 8)) l ≡ false =
+            lt-leb (wordAt b l a ws (x + 8)) l (omega (arith, h, least, leb-true (x + 16) (wordAt b l a ws (x + 8)) m)) in
+            simp (begins, untagged, n))
+            (λ m. simp (begins, untagged, m, and-false))
 
-        pub step-bad-block : not s ≡ true → Met.BadDescriptor ≡ stepAt b l a ws low x
-        unfolding stepAt
-        step-bad-block fs =
-            let n : mayEnd l a (wordAt b l a ws (x + 8)) ≡ false = rw block-end at (said-false s (mayEnd l a (y .0)) es fs) in
-            simp (begins, untagged, n)
-
-        module _ (fs : not s ≡ false) (z : Size) (v : Addr) (ez : z .0 ≡ 16) (ev : v .0 ≡ x + z .0) (k : Bool) (ek : k ≡ ltb (y .0) (v .0)) where
-          block-stops : mayEnd l a (wordAt b l a ws (x + 8)) ≡ true
-          block-stops = rw block-end at (said-true s (mayEnd l a (y .0)) es fs)
+        module _ (y : Addr) (ey : y .0 ≡ getD ws (i + 1) 0) (k : Bool) (ek : k ≡ ltb (y .0) (v .0)) where
+          block-end : y .0 ≡ wordAt b l a ws (x + 8)
+          block-end = cc second
 
           shorter : k ≡ ltb (wordAt b l a ws (x + 8)) (x + 16)
-          shorter = cc block-end
+          shorter = ek ∙ ap₂ ltb block-end least
 
           pub step-tiny : k ≡ true → Met.BadDescriptor ≡ stepAt b l a ws low x
           unfolding stepAt
           step-tiny fk =
               let m : leb (x + 16) (wordAt b l a ws (x + 8)) ≡ false =
               lt-leb (x + 16) (wordAt b l a ws (x + 8)) (ltb-true (wordAt b l a ws (x + 8)) (x + 16) (sym shorter ∙ fk)) in
-              simp (begins, untagged, block-stops, m)
+              simp (begins, untagged, m, and-false)
 
-          pub step-block : k ≡ false → (u : Addr) → u .0 ≡ getD ws i 0 - getD ws i 0 % 2 → Met.Found y u ≡ stepAt b l a ws low x
-          unfolding stepAt
-          step-block fk u eu =
-              let m : leb (x + 16) (wordAt b l a ws (x + 8)) ≡ true =
-              le-leb (x + 16) (wordAt b l a ws (x + 8)) (ltb-false (wordAt b l a ws (x + 8)) (x + 16) (sym shorter ∙ fk)) in
-              let q : u .0 ≡ nextAt b l a ws x = cc in
-              simp (begins, untagged, block-stops, m) (ap₂ (λ (e n : ℕ). Met.Found (addr e) (addr n)) block-end q)
+          module _ (fk : k ≡ false) (s : Bool) (es : s ≡ mayEnd l a (y .0)) where
+            pub step-bad-block : not s ≡ true → Met.BadDescriptor ≡ stepAt b l a ws low x
+            unfolding stepAt
+            step-bad-block fs =
+                let n : mayEnd l a (wordAt b l a ws (x + 8)) ≡ false = rw block-end at (said-false s (mayEnd l a (y .0)) es fs) in
+                simp (begins, untagged, n)
 
-pub ruleset steps = (step-unbegun, step-bad-grain, step-grain, step-outside, step-bad-block, step-tiny, step-block)
+            pub step-block : not s ≡ false → (u : Addr) → u .0 ≡ getD ws i 0 - getD ws i 0 % 2 → Met.Found y u ≡ stepAt b l a ws low x
+            unfolding stepAt
+            step-block fs u eu =
+                let n : mayEnd l a (wordAt b l a ws (x + 8)) ≡ true = rw block-end at (said-true s (mayEnd l a (y .0)) es fs) in
+                let m : leb (x + 16) (wordAt b l a ws (x + 8)) ≡ true =
+                le-leb (x + 16) (wordAt b l a ws (x + 8)) (ltb-false (wordAt b l a ws (x + 8)) (x + 16) (sym shorter ∙ fk)) in
+                let q : u .0 ≡ nextAt b l a ws x = cc in
+                simp (begins, untagged, n, m) (ap₂ (λ (e n : ℕ). Met.Found (addr e) (addr n)) block-end q)
+
+pub ruleset steps = (step-unbegun, step-bad-grain, step-grain, step-outside, step-tiny, step-bad-block, step-block)

@@ -2,6 +2,11 @@
 //
 // Every function here is proved, and the crate assumes nothing of its own. These are inner functions: a `requires`
 // says what the calls of the land have checked before.
+mod cursor;
+mod seeks;
+
+use cursor::Cursor;
+use seeks::Sought;
 use units::Addr;
 use units::Aim;
 use units::Arena;
@@ -11,7 +16,7 @@ ghost use mathlib.Core.Path.{_≡_};
 ghost use Prim.Native.Nat.{_≤_};
 ghost use lib.ListN.{length};
 ghost use Rattle.list_words.specs.Words.{stepAt};
-ghost use Rattle.list_words.specs.Surveys.{Ready, Near, onward, surveyOf};
+ghost use Rattle.list_words.specs.Surveys.{Ready, surveyOf};
 
 // What the words say of a range at an address: its limit and the next range's base, or what is at fault.
 pub enum Met {
@@ -25,17 +30,6 @@ pub struct Spot {
     pub prev: Range,
     pub here: Range,
     pub next: Addr,
-}
-
-// Where a walk stands: the range before, the lowest base that may come, the base that comes, the ranges and bytes met,
-// and what it keeps so far.
-pub struct Cursor {
-    pub prev: Range,
-    pub low: Addr,
-    pub at: Addr,
-    pub count: u64,
-    pub bytes: Size,
-    pub kept: Spot,
 }
 
 // The head of a list, and the number of its ranges and their bytes as the handle has them.
@@ -69,53 +63,56 @@ pub fn step(arena: Arena, words: &[u64], low: Addr, at: Addr) -> Met
         }
         return Met::Found(end, units::untagged(w));
     }
-    let j = i + 1;
-    if words.len() <= j {
+    let least = at.plus(Size::new(16));
+    if arena.limit.lt(least) {
         return Met::BadDescriptor;
     }
-    let end = Addr::new(words[j]);
+    let end = Addr::new(words[i + 1]);
+    if end.lt(least) {
+        return Met::BadDescriptor;
+    }
     if !arena.may_end(end) {
-        return Met::BadDescriptor;
-    }
-    if end.lt(at.plus(Size::new(16))) {
         return Met::BadDescriptor;
     }
     Met::Found(end, units::untagged(w))
 }
 
-impl Cursor {
-    // One range further on.
-    fn on(self, aim: Aim, end: Addr, next: Addr) -> Cursor
-        requires { ⌜ Near self (end .0) ⌝ }
-        ensures { λ r. ⌜ r ≡ onward self aim (end .0) next ⌝ }
-    {
-        let at = self.at;
-        let prev = self.prev;
-        let kept = self.kept;
-        let best = kept.here;
-        let here = Range::new(at, end);
-        let low = end.after();
-        let count = self.count + 1;
-        let bytes = self.bytes.plus(here.size());
-        if aim.takes(best, here) {
-            return Cursor {
-                prev: here,
-                low,
-                at: next,
-                count,
-                bytes,
-                kept: Spot { prev, here, next },
-            };
+// The walk of an aim that weighs each range against what it has kept.
+fn weigh(arena: Arena, words: &[u64], chain: Chain, aim: Aim) -> Verdict
+    requires { ⌜ Ready arena (length (now words)) ⌝ }
+    ensures { λ r. ⌜ r ≡ surveyOf arena (now (words .entry)) chain aim ⌝ }
+{
+    let none = Range::none();
+    let nowhere = Addr::new(0);
+    let mut prev = none;
+    let mut kept = Spot {
+        prev: none,
+        here: none,
+        next: nowhere,
+    };
+    let mut cur = Cursor::start(arena, chain.head);
+    while !cur.at.is_zero() {
+        let Met::Found(end, next) = step(arena, words, cur.low, cur.at) else {
+            return Verdict::Damaged;
+        };
+        let here = Range::new(cur.at, end);
+        if aim.takes(kept.here, here) {
+            kept = Spot { prev, here, next };
         }
-        Cursor {
-            prev: here,
-            low,
-            at: next,
-            count,
-            bytes,
-            kept,
-        }
+        prev = here;
+        cur = cur.on(end, next);
     }
+    if !cur.counts(chain) {
+        return Verdict::Damaged;
+    }
+    if kept.here.base.is_zero() {
+        return Verdict::Sound(Spot {
+            prev,
+            here: none,
+            next: nowhere,
+        });
+    }
+    Verdict::Sound(kept)
 }
 
 // The one walk over the list, from head to its end.
@@ -123,44 +120,16 @@ pub fn survey(arena: Arena, words: &[u64], chain: Chain, aim: Aim) -> Verdict
     requires { ⌜ Ready arena (length (now words)) ⌝ }
     ensures { λ r. ⌜ r ≡ surveyOf arena (now (words .entry)) chain aim ⌝ }
 {
-    let none = Range::none();
-    let nowhere = Addr::new(0);
-    let low = arena.base;
-    let at = chain.head;
-    let bytes = Size::new(0);
-    let kept = Spot {
-        prev: none,
-        here: none,
-        next: nowhere,
-    };
-    let mut cur = Cursor {
-        prev: none,
-        low,
-        at,
-        count: 0,
-        bytes,
-        kept,
-    };
-    while !cur.at.is_zero() {
-        let Met::Found(end, next) = step(arena, words, cur.low, cur.at) else {
-            return Verdict::Damaged;
-        };
-        cur = cur.on(aim, end, next);
+    if !seeks::stays(aim) {
+        return weigh(arena, words, chain, aim);
     }
-    if cur.count != chain.ranges {
+    let Sought::At(s, c) = seeks::first(arena, words, chain.head, aim) else {
         return Verdict::Damaged;
+    };
+    let spot = s;
+    let cur = c;
+    if cur.sound_on(arena, words, chain) {
+        return Verdict::Sound(spot);
     }
-    if !cur.bytes.same(chain.bytes) {
-        return Verdict::Damaged;
-    }
-    let last = cur.prev;
-    let found = cur.kept;
-    if found.here.base.is_zero() {
-        return Verdict::Sound(Spot {
-            prev: last,
-            here: none,
-            next: nowhere,
-        });
-    }
-    Verdict::Sound(found)
+    Verdict::Damaged
 }

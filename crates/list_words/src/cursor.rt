@@ -1,0 +1,76 @@
+// Where a walk stands, and the walk on to the end that only judges.
+use crate::Chain;
+use crate::Met;
+use units::Addr;
+use units::Arena;
+use units::Size;
+ghost use mathlib.Core.Path.{_≡_};
+ghost use lib.ListN.{length};
+ghost use Rattle.list_words.specs.Words.{soundWalk};
+ghost use Rattle.list_words.specs.Surveys.{Ready, Along, Near, startAt, onward, countsOf, walkOf};
+
+// Where a walk stands: the lowest base that may come, the base that comes, the ranges and bytes met.
+pub struct Cursor {
+    pub low: Addr,
+    pub at: Addr,
+    pub count: u64,
+    pub bytes: Size,
+}
+
+impl Cursor {
+    // Before the first range.
+    pub(crate) fn start(arena: Arena, head: Addr) -> Cursor
+        ensures { λ r. ⌜ r ≡ startAt arena head ⌝ }
+    {
+        let low = arena.base;
+        let bytes = Size::new(0);
+        Cursor {
+            low,
+            at: head,
+            count: 0,
+            bytes,
+        }
+    }
+
+    // One range further on.
+    pub(crate) fn on(self, end: Addr, next: Addr) -> Cursor
+        requires { ⌜ Near self (end .0) ⌝ }
+        ensures { λ r. ⌜ r ≡ onward self (end .0) next ⌝ }
+    {
+        let low = end.after();
+        let count = self.count + 1;
+        let bytes = self.bytes.plus(self.at.size_to(end));
+        Cursor {
+            low,
+            at: next,
+            count,
+            bytes,
+        }
+    }
+
+    // Whether the ranges and bytes met are those of the handle.
+    pub(crate) fn counts(self, chain: Chain) -> bool
+        ensures { λ r. ⌜ r ≡ countsOf self chain ⌝ }
+    {
+        if chain.ranges != self.count {
+            return false;
+        }
+        chain.bytes.same(self.bytes)
+    }
+
+    // Whether the whole list is sound, by the walk from here.
+    pub(crate) fn sound_on(self, arena: Arena, words: &[u64], chain: Chain) -> bool
+        requires { ⌜ Ready arena (length (now words)) ⌝ }
+        requires { ⌜ Along arena (now words) (chain .head .0) self ⌝ }
+        ensures { λ r. ⌜ r ≡ soundWalk (walkOf arena (now (words .entry)) (chain .head .0)) (chain .ranges) (chain .bytes .0) ⌝ }
+    {
+        let mut cur = self;
+        while !cur.at.is_zero() {
+            let Met::Found(end, next) = crate::step(arena, words, cur.low, cur.at) else {
+                return false;
+            };
+            cur = cur.on(end, next);
+        }
+        cur.counts(chain)
+    }
+}
