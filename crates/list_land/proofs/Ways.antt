@@ -71,13 +71,10 @@ module _ (h : ListLand) (ws : List ℕ) (aim : Aim) (r : SetUp) (e : r ≡ setUp
   unfolding lookOf
   look-bad f = rw (set-up-false (setUp h ws) r e f)
 
-  pub look-align : r ≡ SetUp.Good → (v : Arena) → v ≡ arenaIn h → goodAlign (v .align .0) ≡ true
-  look-align f v ev = rw ev (placed h ws (set-up-true (setUp h ws) r e f) .arena .align)
+  pub look-align : r ≡ SetUp.Good → goodAlign (h .align .0) ≡ true
+  look-align f = placed h ws (set-up-true (setUp h ws) r e f) .arena .align
 
-  module _ (f : r ≡ SetUp.Good) (v0 : Arena) (ev0 : v0 ≡ arenaIn h) (a : Arena) (ea0 : a ≡ v0) where
-    ea : a ≡ arenaIn h
-    ea = ea0 ∙ ev0
-
+  module _ (f : r ≡ SetUp.Good) (a : Arena) (ea : a ≡ arenaIn h) where
     pub look-ready : Ready a (length ws)
     look-ready = rw ea (placed h ws (set-up-true (setUp h ws) r e f) .ready)
 

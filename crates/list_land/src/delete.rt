@@ -42,7 +42,7 @@ impl ListLand {
         requires { ⌜ Sought self (now words) (reachLimit range) spot ⌝ }
         ensures { λ r. ⌜ (r ≡ changed (deleted self (now (words .entry)) range)) × (now (words .exit) ≡ deleted self (now (words .entry)) range .words) ⌝ }
     {
-        let RangeCheck::Good = self.arena().check_range(range) else {
+        let RangeCheck::Good = self.good_arena().check_range(range) else {
             return refused(self, 4);
         };
         let here = spot.here;

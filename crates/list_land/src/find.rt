@@ -30,7 +30,7 @@ impl ListLand {
         requires { ⌜ Sought self (now words) (findAim self which size) spot ⌝ }
         ensures { λ r. ⌜ (r ≡ foundOf (found self (now (words .entry)) which (size .0) mode)) × (now (words .exit) ≡ found self (now (words .entry)) which (size .0) mode .words) ⌝ }
     {
-        let arena = self.arena();
+        let arena = self.good_arena();
         let SizeCheck::Good = arena.check_find(which, size) else {
             return none_found(self, 4);
         };

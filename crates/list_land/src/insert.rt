@@ -48,7 +48,7 @@ impl ListLand {
         requires { ⌜ Sought self (now words) (reachBase range) spot ⌝ }
         ensures { λ r. ⌜ (r ≡ changed (inserted self (now (words .entry)) range)) × (now (words .exit) ≡ inserted self (now (words .entry)) range .words) ⌝ }
     {
-        let arena = self.arena();
+        let arena = self.good_arena();
         let RangeCheck::Good = arena.check_range(range) else {
             return refused(self, 4);
         };

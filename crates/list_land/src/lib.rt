@@ -17,8 +17,9 @@ use units::ArenaCheck;
 use units::Range;
 use units::SetUp;
 use units::Size;
+ghost use mathlib.Core.Bool.{true};
 ghost use mathlib.Core.Path.{_≡_};
-ghost use Rattle.units.specs.Rules.{setUpOf};
+ghost use Rattle.units.specs.Rules.{goodAlign, setUpOf};
 ghost use Rattle.list_land.specs.Layout.{setUp};
 ghost use Rattle.list_land.specs.Calls.{refusedBy, changed, walked, openedOf};
 ghost use Rattle.list_land.specs.Parts.{arenaIn, chainOf, lookOf, closedWith};
@@ -86,6 +87,14 @@ impl ListLand {
         Arena { base, limit, align }
     }
 
+    // The arena of a handle with a good set-up, its alignment one of ten constants.
+    pub(crate) fn good_arena(self) -> Arena
+        requires { ⌜ goodAlign (self .align .0) ≡ true ⌝ }
+        ensures { λ r. ⌜ r ≡ arenaIn self ⌝ }
+    {
+        self.arena().divided()
+    }
+
     fn chain(self) -> Chain
         ensures { λ r. ⌜ r ≡ chainOf self ⌝ }
     {
@@ -119,7 +128,7 @@ impl ListLand {
         let SetUp::Good = self.set_up(words) else {
             return Look::BadSetUp;
         };
-        match list_words::survey(self.arena().divided(), words, self.chain(), aim) {
+        match list_words::survey(self.good_arena(), words, self.chain(), aim) {
             Verdict::Damaged => Look::Damaged,
             Verdict::Sound(spot) => Look::Sound(spot),
         }

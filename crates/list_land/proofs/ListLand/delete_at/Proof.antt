@@ -6,7 +6,7 @@ use Rattle.model.proofs.Checks.{range-bad, range-good}
 use Rattle.model.specs.Calls.{good-range}
 use Rattle.list_land.specs.Layout.{arenaOf}
 use Rattle.list_land.proofs.DeleteAnswers.{delete-4, delete-behind, delete-before, delete-cutting, delete-0}
-use Rattle.list_land.proofs.Requests.{sought-positive}
+use Rattle.list_land.proofs.Requests.{sought-positive, sought-align}
 use Rattle.list_land.proofs.ListLand.delete_at.Statement.{statement}
 use Rattle.list_land.proofs.ListLand.delete_at.Tie as tie
 
@@ -14,10 +14,10 @@ use Rattle.list_land.proofs.ListLand.delete_at.Tie as tie
 good : (k : tie.After-enum-told) → let a = k .before .before .before .before .before .args in good-range (arenaOf (a .self)) (a .range .base .0) (a .range .limit .0) ≡ true
 good k =
     let entry = k .before .before .before .before .before in
-    range-good (arenaOf (entry .args .self)) _ (k .before .before .before .arena .ensures) (entry .args .range) _ (k .before .before .check-range .ensures) (k .enum-told .given .1)
+    range-good (arenaOf (entry .args .self)) _ (k .before .before .before .good-arena .ensures) (entry .args .range) _ (k .before .before .check-range .ensures) (k .enum-told .given .1)
 
-arena-requires : tie.Need-arena-requires
-arena-requires c κs = search needs
+good-arena-requires : tie.Need-good-arena-requires
+good-arena-requires c κs = search sought-align
 
 check-range-requires : tie.Need-check-range-requires
 check-range-requires c κs = search sought-positive
@@ -32,7 +32,7 @@ returns : tie.Need-returns
 returns c =
     let entry = c .before .before .before .before .before in
     delete-4 _ _ (entry .args .range) _ (entry .pre)
-    (range-bad (arenaOf (entry .args .self)) _ (c .before .before .before .arena .ensures) (entry .args .range) _ (c .before .before .check-range .ensures) (c .before .match .keys2))
+    (range-bad (arenaOf (entry .args .self)) _ (c .before .before .before .good-arena .ensures) (entry .args .range) _ (c .before .before .check-range .ensures) (c .before .match .keys2))
     _ (c .refused .ensures)
 
 is-zero-requires : tie.Need-is-zero-requires
@@ -82,7 +82,7 @@ pub delete-at-spec : {M : Type 1} → statement M
 delete-at-spec =
     tie.close
     (tie.spec
-    arena-requires
+    good-arena-requires
     check-range-requires
     enum-told
     refused-requires

@@ -6,7 +6,7 @@ use Rattle.model.proofs.Checks.{size-bad, size-good}
 use Rattle.model.specs.Calls.{good-size}
 use Rattle.list_land.specs.Layout.{arenaOf}
 use Rattle.list_land.proofs.FindAnswers.{find-4, find-2, find-within, find-kept, find-cutting, find-0}
-use Rattle.list_land.proofs.Requests.{sought-positive}
+use Rattle.list_land.proofs.Requests.{sought-positive, sought-align}
 use Rattle.list_land.proofs.ListLand.find_at.Statement.{statement}
 use Rattle.list_land.proofs.ListLand.find_at.Tie as tie
 
@@ -14,10 +14,10 @@ use Rattle.list_land.proofs.ListLand.find_at.Tie as tie
 good : (k : tie.After-enum-told) → let a = k .before .before .before .before .before .args in good-size (arenaOf (a .self)) (a .which) (a .size .0) ≡ true
 good k =
     let a = k .before .before .before .before .before .args in
-    size-good (arenaOf (a .self)) _ (k .before .before .before .arena .ensures) (a .which) (a .size .0) _ (k .before .before .check-find .ensures) (k .enum-told .given .1)
+    size-good (arenaOf (a .self)) _ (k .before .before .before .good-arena .ensures) (a .which) (a .size .0) _ (k .before .before .check-find .ensures) (k .enum-told .given .1)
 
-arena-requires : tie.Need-arena-requires
-arena-requires c κs = search needs
+good-arena-requires : tie.Need-good-arena-requires
+good-arena-requires c κs = search sought-align
 
 check-find-requires : tie.Need-check-find-requires
 check-find-requires c κs = search sought-positive
@@ -32,7 +32,7 @@ returns : tie.Need-returns
 returns c =
     let entry = c .before .before .before .before .before in
     find-4 _ _ (entry .args .which) (entry .args .size) (entry .args .mode) _ (entry .pre)
-    (size-bad (arenaOf (entry .args .self)) _ (c .before .before .before .arena .ensures) (entry .args .which) (entry .args .size .0) _ (c .before .before .check-find .ensures) (c .before .match .keys2))
+    (size-bad (arenaOf (entry .args .self)) _ (c .before .before .before .good-arena .ensures) (entry .args .which) (entry .args .size .0) _ (c .before .before .check-find .ensures) (c .before .match .keys2))
     _ (c .none-found .ensures)
 
 is-zero-requires : tie.Need-is-zero-requires
@@ -56,7 +56,7 @@ part-requires c κs =
     let checked = c .before .before .before .before in
     let entry = checked .before .before .before .before .before in
     find-within _ _ (entry .args .which) (entry .args .size) (entry .args .mode) _ (entry .pre) (good checked) _ (c .before .before .is-zero .ensures)
-    (c .before .if1 .left) _ (checked .before .before .before .arena .ensures) _ (c .find-size .ensures)
+    (c .before .if1 .left) _ (checked .before .before .before .good-arena .ensures) _ (c .find-size .ensures)
 
 enum-told-2 : tie.Need-enum-told-2
 enum-told-2 c = search needs
@@ -74,7 +74,7 @@ cut-requires c κs =
     let entry = checked .before .before .before .before .before in
     find-cutting _ _ (entry .args .which) (entry .args .size) (entry .args .mode) _ (entry .pre) (good checked) _
     (c .before .before .before .before .before .is-zero .ensures) (c .before .before .before .before .if1 .left) (c .before .match2 .keys2) _
-    (checked .before .before .before .arena .ensures) _ (c .before .before .before .find-size .ensures) _ (c .before .before .part .ensures)
+    (checked .before .before .before .good-arena .ensures) _ (c .before .before .before .find-size .ensures) _ (c .before .before .part .ensures)
 
 same-length : tie.Need-same-length
 same-length c = search needs
@@ -86,14 +86,14 @@ returns-4 c =
     find-0 _ _ (entry .args .which) (entry .args .size) (entry .args .mode) _ (entry .pre) (good checked) _
     (c .before .before .before .before .before .before .before .before .is-zero .ensures)
     (c .before .before .before .before .before .before .before .if1 .left) (c .before .before .before .before .match2 .keys2) _
-    (checked .before .before .before .arena .ensures) _ (c .before .before .before .before .before .before .find-size .ensures) _
+    (checked .before .before .before .good-arena .ensures) _ (c .before .before .before .before .before .before .find-size .ensures) _
     (c .before .before .before .before .before .part .ensures) _ _ (c .before .before .cut .ensures)
 
 pub find-at-spec : {M : Type 1} → statement M
 find-at-spec =
     tie.close
     (tie.spec
-    arena-requires
+    good-arena-requires
     check-find-requires
     enum-told
     none-found-requires

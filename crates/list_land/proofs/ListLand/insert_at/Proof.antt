@@ -6,7 +6,7 @@ use Rattle.model.proofs.Checks.{range-bad, range-good}
 use Rattle.model.specs.Calls.{good-range}
 use Rattle.list_land.specs.Layout.{arenaOf}
 use Rattle.list_land.proofs.InsertAnswers.{insert-4, insert-placing, insert-1, insert-putting, insert-0}
-use Rattle.list_land.proofs.Requests.{sought-positive}
+use Rattle.list_land.proofs.Requests.{sought-positive, sought-align}
 use Rattle.list_land.proofs.ListLand.insert_at.Statement.{statement}
 use Rattle.list_land.proofs.ListLand.insert_at.Tie as tie
 
@@ -14,10 +14,10 @@ use Rattle.list_land.proofs.ListLand.insert_at.Tie as tie
 good : (k : tie.After-enum-told) → let a = k .before .before .before .before .before .args in good-range (arenaOf (a .self)) (a .range .base .0) (a .range .limit .0) ≡ true
 good k =
     let entry = k .before .before .before .before .before in
-    range-good (arenaOf (entry .args .self)) _ (k .before .before .before .arena .ensures) (entry .args .range) _ (k .before .before .check-range .ensures) (k .enum-told .given .1)
+    range-good (arenaOf (entry .args .self)) _ (k .before .before .before .good-arena .ensures) (entry .args .range) _ (k .before .before .check-range .ensures) (k .enum-told .given .1)
 
-arena-requires : tie.Need-arena-requires
-arena-requires c κs = search needs
+good-arena-requires : tie.Need-good-arena-requires
+good-arena-requires c κs = search sought-align
 
 check-range-requires : tie.Need-check-range-requires
 check-range-requires c κs = search sought-positive
@@ -32,11 +32,11 @@ returns : tie.Need-returns
 returns c =
     let entry = c .before .before .before .before .before in
     insert-4 _ _ (entry .args .range) _ (entry .pre)
-    (range-bad (arenaOf (entry .args .self)) _ (c .before .before .before .arena .ensures) (entry .args .range) _ (c .before .before .check-range .ensures) (c .before .match .keys2))
+    (range-bad (arenaOf (entry .args .self)) _ (c .before .before .before .good-arena .ensures) (entry .args .range) _ (c .before .before .check-range .ensures) (c .before .match .keys2))
     _ (c .refused .ensures)
 
 place-requires : tie.Need-place-requires
-place-requires c κs = insert-placing _ _ (c .before .before .before .before .before .before .args .range) _ (c .before .before .before .before .before .before .pre) (good (c .before)) _ (c .before .before .before .before .arena .ensures)
+place-requires c κs = insert-placing _ _ (c .before .before .before .before .before .before .args .range) _ (c .before .before .before .before .before .before .pre) (good (c .before)) _ (c .before .before .before .before .good-arena .ensures)
 
 enum-known-p : tie.Need-enum-known-p
 enum-known-p c = search needs
@@ -54,14 +54,14 @@ returns-2 : tie.Need-returns-2
 returns-2 c =
     let checked = c .before .before .before .before .before in
     let entry = checked .before .before .before .before .before in
-    insert-1 _ _ (entry .args .range) _ (entry .pre) (good checked) _ (checked .before .before .before .arena .ensures) _ (c .before .before .before .place .ensures) (c .before .enum-told2 .given .1) _
+    insert-1 _ _ (entry .args .range) _ (entry .pre) (good checked) _ (checked .before .before .before .good-arena .ensures) _ (c .before .before .before .place .ensures) (c .before .enum-told2 .given .1) _
     (c .refused2 .ensures)
 
 put-requires : tie.Need-put-requires
 put-requires c κs =
     let checked = c .before .before .before .before .before .before in
     let entry = checked .before .before .before .before .before in
-    insert-putting _ _ (entry .args .range) _ (entry .pre) (good checked) _ (checked .before .before .before .arena .ensures) _ (c .before .before .before .before .place .ensures) _ (c .before .before .p .given .1)
+    insert-putting _ _ (entry .args .range) _ (entry .pre) (good checked) _ (checked .before .before .before .good-arena .ensures) _ (c .before .before .before .before .place .ensures) _ (c .before .before .p .given .1)
 
 same-length-2 : tie.Need-same-length-2
 same-length-2 c = search needs
@@ -70,14 +70,14 @@ returns-3 : tie.Need-returns-3
 returns-3 c =
     let checked = c .before .before .before .before .before .before .before .before .before in
     let entry = checked .before .before .before .before .before in
-    insert-0 _ _ (entry .args .range) _ (entry .pre) (good checked) _ (checked .before .before .before .arena .ensures) _ (c .before .before .before .before .before .before .before .place .ensures) _
+    insert-0 _ _ (entry .args .range) _ (entry .pre) (good checked) _ (checked .before .before .before .good-arena .ensures) _ (c .before .before .before .before .before .before .before .place .ensures) _
     (c .before .before .before .before .before .p .given .1) _ _ (c .before .before .put .ensures)
 
 pub insert-at-spec : {M : Type 1} → statement M
 insert-at-spec =
     tie.close
     (tie.spec
-    arena-requires
+    good-arena-requires
     check-range-requires
     enum-told
     refused-requires

@@ -16,11 +16,8 @@ enum-told-2 c = search needs
 returns : tie.Need-returns
 returns c = search look-ways
 
-arena-requires : tie.Need-arena-requires
-arena-requires c κs = search needs
-
-divided-requires : tie.Need-divided-requires
-divided-requires c κs = search look-ways
+good-arena-requires : tie.Need-good-arena-requires
+good-arena-requires c κs = search look-ways
 
 chain-requires : tie.Need-chain-requires
 chain-requires c κs = search needs
@@ -48,8 +45,7 @@ look-spec =
     enum-told
     enum-told-2
     returns
-    arena-requires
-    divided-requires
+    good-arena-requires
     chain-requires
     survey-requires
     enum-told-3
