@@ -1,6 +1,6 @@
 -- The walk up to the first range that fits: the tests of a goal, what holds at each turn of the loop of `seek`, and its ways out. Assumes nothing.
-use Prim.Native.Nat.{ℕ, _+_, _-_, _≤_}
-use mathlib.Core.Bool.{Bool, true, false, not, and-false}
+use Prim.Native.Nat.{ℕ, _+_, _≤_}
+use mathlib.Core.Bool.{Bool, true, false, not}
 use mathlib.Core.List.{List, [], _∷_}
 use mathlib.Core.Path.{_≡_, refl, sym, _∙_, ap, subst}
 use native.Mathlib.Omega.{arith}
@@ -19,9 +19,8 @@ use Rattle.model.specs.Marks as marks
 use Rattle.list_words.specs.Words.{clean, stepAt}
 use Rattle.list_words.specs.Laying.{head-of}
 use Rattle.list_words.specs.Surveys.{Ready, walkIn, walkOf, spot, startAt, onward, Along}
-use Rattle.list_words.specs.Seeks.{fits, sought, Come, SoughtBy}
+use Rattle.list_words.specs.Seeks.{fits, sought, SoughtBy}
 use Rattle.list_words.specs.declared.Met.{Met}
-use Rattle.list_words.specs.declared.Spot.{Spot}
 use Rattle.list_words.specs.declared.cursor.Cursor.{Cursor}
 use Rattle.list_words.specs.declared.seeks.Goal.{Goal}
 use Rattle.list_words.specs.declared.seeks.Sought.{Sought}

@@ -1,11 +1,11 @@
 -- An aim that keeps the first range that it takes keeps the first range that fits its goal, and the ways out of `first`. Assumes nothing.
 use Prim.Native.Nat.{ℕ, suc, _≤_, _<_}
-use mathlib.Core.Bool.{Bool, true, false, not, _&&_, and-false}
+use mathlib.Core.Bool.{true, false, not, and-false}
 use mathlib.Core.List.{List, [], _∷_}
-use mathlib.Core.Path.{_≡_, refl, sym, _∙_, ap}
+use mathlib.Core.Path.{_≡_, refl, sym, _∙_}
 use native.Mathlib.Omega.{arith}
 use lib.ListN.{length}
-use lib.Dec.{eqb, leb, ltb}
+use lib.Dec.{leb, ltb}
 use borrow.Author.Tests.{ne-eqb, le-leb, lt-leb, ltb-true, ltb-false}
 use Rattle.units.specs.declared.Addr.{Addr}
 use Rattle.units.specs.declared.Range.{Range}
@@ -22,7 +22,7 @@ use Rattle.model.specs.Lists.{Apart}
 use Rattle.list_words.specs.Words.{clean, walkFrom}
 use Rattle.list_words.specs.Laying.{head-of}
 use Rattle.list_words.specs.Surveys.{Ready, walkOf, spot, no-spot, keeping, kept-of}
-use Rattle.list_words.specs.Seeks.{fits, sought, keepsFirst, Come, SoughtBy}
+use Rattle.list_words.specs.Seeks.{fits, sought, keepsFirst, SoughtBy}
 use Rattle.list_words.specs.declared.Spot.{Spot}
 use Rattle.list_words.specs.declared.seeks.Goal.{Goal}
 use Rattle.list_words.specs.declared.seeks.Sought.{Sought}

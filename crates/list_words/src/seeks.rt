@@ -96,49 +96,16 @@ pub(crate) fn first(arena: Arena, words: &[u64], head: Addr, aim: Aim) -> Sought
     requires { ⌜ keepsFirst aim ≡ true ⌝ }
     ensures { λ r. ⌜ SoughtBy arena (now (words .entry)) (head .0) (kept-of aim) r ⌝ }
 {
-    let zero = Addr::new(0);
-    let never = Addr::new(18446744073709551615);
-    let any = Size::new(0);
+    let reach = Addr::new(0);
+    let from = Addr::new(0);
+    let size = Size::new(0);
     match aim {
-        Aim::Nothing => seek(
-            arena,
-            words,
-            head,
-            Goal {
-                reach: never,
-                from: zero,
-                size: any,
-            },
-        ),
-        Aim::Reach(x) => seek(
-            arena,
-            words,
-            head,
-            Goal {
-                reach: x,
-                from: zero,
-                size: any,
-            },
-        ),
-        Aim::From(x) => seek(
-            arena,
-            words,
-            head,
-            Goal {
-                reach: zero,
-                from: x,
-                size: any,
-            },
-        ),
-        Aim::Find(_, n) => seek(
-            arena,
-            words,
-            head,
-            Goal {
-                reach: zero,
-                from: zero,
-                size: n,
-            },
-        ),
+        Aim::Nothing => {
+            let reach = Addr::new(18446744073709551615);
+            seek(arena, words, head, Goal { reach, from, size })
+        }
+        Aim::Reach(reach) => seek(arena, words, head, Goal { reach, from, size }),
+        Aim::From(from) => seek(arena, words, head, Goal { reach, from, size }),
+        Aim::Find(_, size) => seek(arena, words, head, Goal { reach, from, size }),
     }
 }
