@@ -6,6 +6,7 @@ use mathlib.Core.Path.{_≡_, refl, sym, ap, _∙_}
 use native.Mathlib.Omega.{arith}
 use lib.ListN.{length}
 use borrow.Author.Tests.{not-false}
+use Rattle.units.specs.Rules.{goodAlign}
 use Rattle.units.specs.declared.Range.{Range}
 use Rattle.units.specs.declared.Size.{Size}
 use Rattle.units.specs.declared.rules.Arena.{Arena}
@@ -30,6 +31,9 @@ use Rattle.block_land.proofs.Sound.{Fine, fine, placed}
 
 pub readable-positive : (h : BlockLand) (ws : List ℕ) (a : Arena) → Readable h ws → a ≡ arenaIn h → 0 < a .align .0
 readable-positive h ws a k e = rw e (placed h ws (k .good) .positive)
+
+pub readable-align : (h : BlockLand) (ws : List ℕ) → Readable h ws → goodAlign (h .align .0) ≡ true
+readable-align h ws k = placed h ws (k .good) .arena .align
 
 -- the next handle, from its two counts
 pub closes : (h : BlockLand) (rs : List marks.Range) (n : ℕ) (s : Size) → n ≡ length rs → s .0 ≡ total rs → closedWith h n s ≡ closed h rs

@@ -11,7 +11,7 @@ use lib.ListN.{length}
 use types.Run.{OneOf}
 use denote.Enum.Declared.{tagOf}
 use borrow.Author.Tests.{le-leb}
-use Rattle.units.specs.Rules.{findSize}
+use Rattle.units.specs.Rules.{findSize, goodAlign}
 use Rattle.units.specs.declared.Mode.{Mode}
 use Rattle.units.specs.declared.Range as units
 use Rattle.units.specs.declared.Size.{Size}
@@ -61,6 +61,9 @@ find-aimed h ws w n a ea m em v ev r f =
 
 pub aimed-positive : (h : BlockLand) (ws : List ℕ) (aim : Aim) (r : units.Range) (a : Arena) → Aimed h ws aim r → a ≡ arenaIn h → 0 < a .align .0
 aimed-positive h ws aim r a k e = rw e (placed h ws (k .good) .positive)
+
+pub aimed-align : (h : BlockLand) (ws : List ℕ) (aim : Aim) (r : units.Range) → Aimed h ws aim r → goodAlign (h .align .0) ≡ true
+aimed-align h ws aim r k = placed h ws (k .good) .arena .align
 
 module _ (h : BlockLand) (ws : List ℕ) (w : Which) (n : Size) (mode : Mode) (r : units.Range) (k : Aimed h ws (findAim h w n) r) where
   abbrev rs : List Range

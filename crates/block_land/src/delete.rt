@@ -17,7 +17,7 @@ impl BlockLand {
         requires { ⌜ Readable self (now nodes) ⌝ }
         ensures { λ r. ⌜ (r ≡ changed (deleted self (now (nodes .entry)) range)) × (now (nodes .exit) ≡ deleted self (now (nodes .entry)) range .words) ⌝ }
     {
-        let RangeCheck::Good = self.arena().check_range(range) else {
+        let RangeCheck::Good = self.good_arena().check_range(range) else {
             return refused(self, 4);
         };
         match block_edits::cut_out(nodes, self.ranges, range) {

@@ -30,7 +30,7 @@ impl BlockLand {
         requires { ⌜ Aimed self (now nodes) (findAim self which size) here ⌝ }
         ensures { λ r. ⌜ (r ≡ foundOf (found self (now (nodes .entry)) which (size .0) mode)) × (now (nodes .exit) ≡ found self (now (nodes .entry)) which (size .0) mode .words) ⌝ }
     {
-        let arena = self.arena();
+        let arena = self.good_arena();
         let SizeCheck::Good = arena.check_find(which, size) else {
             return none_found(self, 4);
         };

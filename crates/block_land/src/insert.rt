@@ -17,7 +17,7 @@ impl BlockLand {
         requires { ⌜ Readable self (now nodes) ⌝ }
         ensures { λ r. ⌜ (r ≡ changed (inserted self (now (nodes .entry)) range)) × (now (nodes .exit) ≡ inserted self (now (nodes .entry)) range .words) ⌝ }
     {
-        let RangeCheck::Good = self.arena().check_range(range) else {
+        let RangeCheck::Good = self.good_arena().check_range(range) else {
             return refused(self, 4);
         };
         match block_edits::put_in(nodes, self.ranges, range) {

@@ -16,8 +16,9 @@ use units::ArenaCheck;
 use units::Range;
 use units::SetUp;
 use units::Size;
+ghost use mathlib.Core.Bool.{true};
 ghost use mathlib.Core.Path.{_≡_};
-ghost use Rattle.units.specs.Rules.{setUpOf};
+ghost use Rattle.units.specs.Rules.{goodAlign, setUpOf};
 ghost use Rattle.block_land.specs.Layout.{setUp};
 ghost use Rattle.block_land.specs.Calls.{refusedBy, changed, walked};
 ghost use Rattle.block_land.specs.Parts.{arenaIn, lookOf, closedWith};
@@ -82,6 +83,14 @@ impl BlockLand {
         let limit = self.limit;
         let align = self.align;
         Arena { base, limit, align }
+    }
+
+    // The arena of a handle with a good set-up, its alignment one of ten constants.
+    pub(crate) fn good_arena(self) -> Arena
+        requires { ⌜ goodAlign (self .align .0) ≡ true ⌝ }
+        ensures { λ r. ⌜ r ≡ arenaIn self ⌝ }
+    {
+        self.arena().divided()
     }
 
     // Whether the fixed fields keep the arena rules and node space is not too long.

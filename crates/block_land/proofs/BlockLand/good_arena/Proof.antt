@@ -1,0 +1,17 @@
+-- `BlockLand::good_arena` meets its contract. Assumes nothing.
+use mathlib.Core.Path.{_∙_}
+use borrow.Author.Needs.{needs}
+use Rattle.block_land.proofs.BlockLand.good_arena.Statement.{statement}
+use Rattle.block_land.proofs.BlockLand.good_arena.Tie as tie
+
+arena-requires : tie.Need-arena-requires
+arena-requires c κs = search needs
+
+divided-requires : tie.Need-divided-requires
+divided-requires c κs = rw (c .arena .ensures) (c .before .pre)
+
+returns : tie.Need-returns
+returns c = c .divided .ensures ∙ c .before .arena .ensures
+
+pub good-arena-spec : {M : Type 1} → statement M
+good-arena-spec = tie.close (tie.spec arena-requires divided-requires returns)
