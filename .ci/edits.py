@@ -11,7 +11,7 @@ An edit is applied to its crate in a copy of the repository, one for each proces
 incremental folder of the crate as it stands: what the edit does not reach is not checked again. The edit passes if the prover
 refuses the crate because a fact fails. It fails if the crate is still proved, if it does not reach the prover, if an 'old:'
 text is not in its file exactly once, or if the first error is of a name: such a refusal says nothing about the program.
-Before the first and after the last edit the crate as it stands must be proved in the copy.
+After the last edit, which is undone like the others, the crate as it stands must be proved in the copy.
 
 The last line is 'N passed, M failed'; the exit status is 0 exactly if M is 0.
 """
@@ -160,9 +160,6 @@ def read_logs(wanted, say):
 def try_crate(copy, crate, edits, say):
     """Tries edits of a crate in a copy; gives how many passed and how many failed."""
     passed = failed = 0
-    if not proved(copy, crate):
-        say(f"edits of {crate}: FAILED: the crate as it stands is not proved in the copy")
-        return 0, 1
     for edit in edits:
         began = time.time()
         wrong, where = judge(copy, crate, edit)
