@@ -7,8 +7,8 @@
 Run from the top of the repository. The edits in crates/NAME/must-fail are also tried by rt ci, which checks the edited crate
 from nothing; those in crates/NAME/must-fail/more are tried here alone.
 
-An edit is applied to its crate in a copy of the repository, one for each processor, and the crate is checked over the
-incremental folder of the crate as it stands: what the edit does not reach is not checked again. The edit passes if the prover
+An edit is applied to its crate in a copy of the repository, one for each processor, and the crate is checked over an
+incremental folder with the modules of the crate as it was proved: what the edit does not reach is not checked again. The edit passes if the prover
 refuses the crate because a fact fails. It fails if the crate is still proved, if it does not reach the prover, if an 'old:'
 text is not in its file exactly once, or if the first error is of a name: such a refusal says nothing about the program.
 After the last edit, which is undone like the others, the crate as it stands must be proved in the copy.
@@ -157,6 +157,25 @@ def read_logs(wanted, say):
     return failed
 
 
+def modules_of(copy, crate):
+    """The folder with the checked modules of a proved library."""
+    return f"{copy}/target/rlib/{crate}.rlib/toolchain/checked"
+
+
+def folder_of_modules(copy):
+    """The name under which the prover keeps checked modules in an incremental folder, seen at the smallest library."""
+    libraries = [crate for crate in crates() if os.path.isdir(modules_of(copy, crate))]
+    smallest = min(libraries, key=lambda crate: len(os.listdir(modules_of(copy, crate))))
+    check(copy, smallest)
+    return os.listdir(f"{copy}/target/inc/{smallest}")[0]
+
+
+def lay_modules(copy, crate, folder):
+    """Puts the modules of a proved library into its incremental folder. Without them the prover would check them again."""
+    if os.path.isdir(modules_of(copy, crate)):
+        shutil.copytree(modules_of(copy, crate), f"{copy}/target/inc/{crate}/{folder}", dirs_exist_ok=True)
+
+
 def try_crate(copy, crate, edits, say):
     """Tries edits of a crate in a copy; gives how many passed and how many failed."""
     passed = failed = 0
@@ -199,11 +218,13 @@ def try_all(todo, say):
 
     def work(folder):
         copy_to(folder)
+        modules = folder_of_modules(folder)
         while True:
             try:
                 crate, edits = waiting.get_nowait()
             except queue.Empty:
                 return
+            lay_modules(folder, crate, modules)
             passed, failed = try_crate(folder, crate, edits, say)
             with lock:
                 totals[0] += passed
