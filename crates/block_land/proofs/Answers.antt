@@ -4,7 +4,6 @@ use mathlib.Core.Bool.{Bool, true, false, cond}
 use mathlib.Core.List.{List}
 use mathlib.Core.Path.{_≡_, refl, _∙_}
 use native.Mathlib.Omega.{arith}
-use Rattle.units.specs.Aims.{none-range}
 use Rattle.units.specs.declared.Mode.{Mode}
 use Rattle.units.specs.declared.Range.{Range}
 use Rattle.units.specs.declared.Which.{Which}
@@ -12,11 +11,12 @@ use Rattle.units.specs.declared.aims.Aim.{Aim}
 use Rattle.units.proofs.Tests.{by}
 use Rattle.model.specs.Calls.{Call, insert, delete, find, walk, refused}
 use Rattle.model.specs.Lands.{land-call}
-use Rattle.model.specs.Picks.{picked}
 use Rattle.model.proofs.Outcomes.{call-fault, fault-number}
+use Rattle.block_words.specs.Surveys.{entryOf}
+use Rattle.block_words.specs.declared.Entry.{Entry}
 use Rattle.block_land.specs.Calls.{LandDone, inserted, deleted, found, walked, changed, foundOf, refusedBy, foundNone}
 use Rattle.block_land.specs.Layout.{setUp, sound, tableOf, readOf, layout}
-use Rattle.block_land.specs.Parts.{lookNumber, lookOf, Readable, Aimed}
+use Rattle.block_land.specs.Parts.{lookNumber, lookOf, Aimed}
 use Rattle.block_land.specs.declared.BlockLand.{BlockLand}
 use Rattle.block_land.specs.declared.Changed.{Changed}
 use Rattle.block_land.specs.declared.Found.{Found}
@@ -24,34 +24,31 @@ use Rattle.block_land.specs.declared.Look.{Look}
 use Rattle.block_land.proofs.LayoutLaws.{reads-5, reads-6}
 
 -- WHAT A LOOK SAYS
-abbrev looked : Bool → Bool → Range → Look
+abbrev looked : Bool → Bool → Entry → Look
 looked g s x = cond g (cond s (Look.Sound x) Look.Damaged) Look.BadSetUp
 
-bad : (g s : Bool) (x : Range) (v : Look) → v ≡ looked g s x → v ≡ Look.BadSetUp → g ≡ false
+bad : (g s : Bool) (x : Entry) (v : Look) → v ≡ looked g s x → v ≡ Look.BadSetUp → g ≡ false
 bad false s x v e f = refl
 bad true false x v e f = let z : _≡_ {A = ℕ} 0 1 = cc in absurd (omega arith)
 bad true true x v e f = let z : _≡_ {A = ℕ} 0 1 = cc in absurd (omega arith)
 
-damaged : (g s : Bool) (x : Range) (v : Look) → v ≡ looked g s x → v ≡ Look.Damaged → (g ≡ true) × (s ≡ false)
+damaged : (g s : Bool) (x : Entry) (v : Look) → v ≡ looked g s x → v ≡ Look.Damaged → (g ≡ true) × (s ≡ false)
 damaged false s x v e f = let z : _≡_ {A = ℕ} 0 1 = cc in absurd (omega arith)
 damaged true false x v e f = (refl, refl)
 damaged true true x v e f = let z : _≡_ {A = ℕ} 0 1 = cc in absurd (omega arith)
 
-whole : (g s : Bool) (x : Range) (v : Look) → v ≡ looked g s x → (r : Range) → v ≡ Look.Sound r → (g ≡ true) × (s ≡ true) × (r ≡ x)
+whole : (g s : Bool) (x : Entry) (v : Look) → v ≡ looked g s x → (r : Entry) → v ≡ Look.Sound r → (g ≡ true) × (s ≡ true) × (r ≡ x)
 whole false s x v e r f = let z : _≡_ {A = ℕ} 0 1 = cc in absurd (omega arith)
 whole true false x v e r f = let z : _≡_ {A = ℕ} 0 1 = cc in absurd (omega arith)
 whole true true x v e r f = (refl, refl, cc)
 
 module _ (h : BlockLand) (ws : List ℕ) (aim : Aim) (v : Look) (e : v ≡ lookOf h ws aim) where
-  abbrev kept : Range
-  kept = picked aim none-range (tableOf h ws)
+  abbrev kept : Entry
+  kept = entryOf aim (tableOf h ws)
 
-  pub saw-aimed : (r : Range) → v ≡ Look.Sound r → Aimed h ws aim r
+  pub saw-aimed : (r : Entry) → v ≡ Look.Sound r → Aimed h ws aim r
   unfolding lookOf
   saw-aimed r f = let s = whole (setUp h ws) (sound h ws) kept v e r f in record { good = s .0; whole = s .1; kept = s .2 }
-
-  pub saw-readable : (r : Range) → v ≡ Look.Sound r → Readable h ws
-  saw-readable r f = let s = saw-aimed r f in record { good = s .good; whole = s .whole }
 
   -- 5 and 6, of any call
   module _ (c : Call) (d : LandDone) (ed : d ≡ land-call layout c h ws) where

@@ -7,8 +7,10 @@ use native.Mathlib.Omega.{arith}
 use lib.ListN.{length}
 use borrow.Author.Tests.{not-false}
 use Rattle.units.specs.Rules.{goodAlign}
+use Rattle.units.specs.declared.Addr.{Addr}
 use Rattle.units.specs.declared.Range.{Range}
 use Rattle.units.specs.declared.Size.{Size}
+use Rattle.units.specs.declared.aims.Aim.{Aim}
 use Rattle.units.specs.declared.rules.Arena.{Arena}
 use Rattle.model.specs.Calls.{insert, delete, good-range}
 use Rattle.model.specs.Lists.{total, holds, holder, delete-from}
@@ -18,22 +20,35 @@ use Rattle.model.proofs.Outcomes.{call-refused, call-accepted}
 use Rattle.model.proofs.Requests.{range-rules}
 use Rattle.model.proofs.Totals.{total-insert, total-delete, total-small}
 use Rattle.block_edits.specs.Edits.{Sorted, editedNumber, joined, putOf, putWords, remaining, cutOf, cutWords}
+use Rattle.block_edits.specs.Places.{Spot}
 use Rattle.block_edits.specs.declared.Edited.{Edited}
+use Rattle.block_words.specs.declared.Entry.{Entry}
+use Rattle.block_edits.proofs.Entering.{reach-spot}
 use Rattle.block_edits.proofs.Answered.{put-refused, put-full, put-done, put-words, cut-refused, cut-full, cut-done, cut-words}
 use Rattle.block_land.specs.Calls.{inserted, deleted, changed, refusedBy}
 use Rattle.block_land.specs.Layout.{base, limit, arenaOf, tableOf, closed, layout}
-use Rattle.block_land.specs.Parts.{arenaIn, closedWith, Readable}
+use Rattle.block_land.specs.Parts.{arenaIn, closedWith, Readable, Aimed}
 use Rattle.block_land.specs.declared.BlockLand.{BlockLand}
 use Rattle.block_land.specs.declared.Changed.{Changed}
 use Rattle.block_land.proofs.Answers.{is-insert, is-delete, refuse-change}
 use Rattle.block_land.proofs.LayoutLaws.{held}
 use Rattle.block_land.proofs.Sound.{Fine, fine, placed}
 
-pub readable-positive : (h : BlockLand) (ws : List ℕ) (a : Arena) → Readable h ws → a ≡ arenaIn h → 0 < a .align .0
-readable-positive h ws a k e = rw e (placed h ws (k .good) .positive)
+module _ (h : BlockLand) (ws : List ℕ) (aim : Aim) (d : Entry) (k : Aimed h ws aim d) where
+  pub readable : Readable h ws
+  readable = record { good = k .good; whole = k .whole }
 
-pub readable-align : (h : BlockLand) (ws : List ℕ) → Readable h ws → goodAlign (h .align .0) ≡ true
-readable-align h ws k = placed h ws (k .good) .arena .align
+  pub aimed-positive : (a : Arena) → a ≡ arenaIn h → 0 < a .align .0
+  aimed-positive a e = rw e (placed h ws (k .good) .positive)
+
+  pub aimed-align : goodAlign (h .align .0) ≡ true
+  aimed-align = placed h ws (k .good) .arena .align
+
+-- the first range that reaches an address
+pub aimed-spot : (h : BlockLand) (ws : List ℕ) (x : Addr) (d : Entry) → Aimed h ws (Aim.Reach x) d → Spot ws (h .ranges) (x .0) (d .number)
+aimed-spot h ws x d k =
+    let f = fine h ws (k .good) (k .whole) in
+    rw (k .kept) (reach-spot ws (h .ranges) (base h) (limit h) x (f .fits) (f .place .arena .above) (f .apart))
 
 -- the next handle, from its two counts
 pub closes : (h : BlockLand) (rs : List marks.Range) (n : ℕ) (s : Size) → n ≡ length rs → s .0 ≡ total rs → closedWith h n s ≡ closed h rs

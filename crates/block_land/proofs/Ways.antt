@@ -8,7 +8,6 @@ use lib.ListN.{length}
 use types.Run.{OneOf}
 use denote.Enum.Declared.{tagOf}
 use borrow.Author.Tests.{le-leb, lt-leb}
-use Rattle.units.specs.Aims.{none-range}
 use Rattle.units.specs.Rules.{arenaCheck, goodArena, setUpOf}
 use Rattle.units.specs.Words.{rangeOf}
 use Rattle.units.specs.declared.Addr.{Addr}
@@ -22,8 +21,9 @@ use Rattle.units.specs.declared.rules.SetUp.{SetUp}
 use Rattle.units.proofs.Cases.{bad-arena, set-up-true, set-up-false}
 use Rattle.units.proofs.Tests.{by}
 use Rattle.units.proofs.rules.ArenaCheck as arena-type
-use Rattle.model.specs.Picks.{picked}
-use Rattle.block_words.specs.Surveys.{Ready, surveyOf}
+use Rattle.block_words.specs.Tallies.{Ready}
+use Rattle.block_words.specs.Surveys.{entryOf, surveyOf}
+use Rattle.block_words.specs.declared.Entry.{Entry}
 use Rattle.block_words.specs.Words.{fill}
 use Rattle.block_words.specs.declared.Verdict.{Verdict}
 use Rattle.block_land.specs.Calls.{refusedBy, foundNone, newLand, openedOf, openedWords}
@@ -76,7 +76,7 @@ module _ (h : BlockLand) (ws : List ℕ) (aim : Aim) (r : SetUp) (e : r ≡ setU
     look-ready = rw ea (placed h ws (set-up-true (setUp h ws) r e f) .check)
 
     module _ (v : Verdict) (ev : v ≡ surveyOf a ws (h .ranges) (h .bytes) aim) where
-      seen : v ≡ cond (sound h ws) (Verdict.Sound (picked aim none-range (tableOf h ws))) Verdict.Damaged
+      seen : v ≡ cond (sound h ws) (Verdict.Sound (entryOf aim (tableOf h ws))) Verdict.Damaged
       unfolding surveyOf sound
       seen = ev ∙ ap (λ (x : Arena). surveyOf x ws (h .ranges) (h .bytes) aim) ea
 
@@ -84,15 +84,15 @@ module _ (h : BlockLand) (ws : List ℕ) (aim : Aim) (r : SetUp) (e : r ≡ setU
       unfolding lookOf
       look-damaged g =
           by (sound h ws)
-          (λ t. let q : v ≡ Verdict.Sound (picked aim none-range (tableOf h ws)) = rw t at seen in let z : _≡_ {A = ℕ} 0 1 = cc in absurd (omega arith))
+          (λ t. let q : v ≡ Verdict.Sound (entryOf aim (tableOf h ws)) = rw t at seen in let z : _≡_ {A = ℕ} 0 1 = cc in absurd (omega arith))
           (λ t. rw (set-up-true (setUp h ws) r e f, t))
 
-      pub look-sound : (s : Range) → v ≡ Verdict.Sound s → Look.Sound s ≡ lookOf h ws aim
+      pub look-sound : (s : Entry) → v ≡ Verdict.Sound s → Look.Sound s ≡ lookOf h ws aim
       unfolding lookOf
       look-sound s g =
           by (sound h ws)
-          (λ t. let q : v ≡ Verdict.Sound (picked aim none-range (tableOf h ws)) = rw t at seen in
-          let w : s ≡ picked aim none-range (tableOf h ws) = cc in rw (set-up-true (setUp h ws) r e f, t) (ap (λ (x : Range). Look.Sound x) w))
+          (λ t. let q : v ≡ Verdict.Sound (entryOf aim (tableOf h ws)) = rw t at seen in
+          let w : s ≡ entryOf aim (tableOf h ws) = cc in rw (set-up-true (setUp h ws) r e f, t) (ap (λ (x : Entry). Look.Sound x) w))
           (λ t. let q : v ≡ Verdict.Damaged = rw t at seen in let z : _≡_ {A = ℕ} 0 1 = cc in absurd (omega arith))
 
 pub ruleset look-ways = (look-bad, look-ready, look-damaged, look-sound)

@@ -3,14 +3,14 @@ use Prim.Native.Nat.{ℕ}
 use mathlib.Core.Bool.{true, cond}
 use mathlib.Core.List.{List}
 use mathlib.Core.Path.{_≡_}
-use Rattle.units.specs.Aims.{none-range}
 use Rattle.units.specs.Rules.{findSize}
 use Rattle.units.specs.declared.aims.Aim.{Aim}
 use Rattle.units.specs.declared.Range.{Range}
 use Rattle.units.specs.declared.Size.{Size}
 use Rattle.units.specs.declared.Which.{Which}
 use Rattle.units.specs.declared.rules.Arena.{Arena}
-use Rattle.model.specs.Picks.{picked}
+use Rattle.block_words.specs.Surveys.{entryOf}
+use Rattle.block_words.specs.declared.Entry.{Entry}
 use Rattle.block_land.specs.Layout.{align, setUp, sound, tableOf}
 use Rattle.block_land.specs.declared.BlockLand.{BlockLand}
 use Rattle.block_land.specs.declared.Look.{Look}
@@ -22,12 +22,12 @@ arenaIn h = record { base = h .base; limit = h .limit; align = h .align }
 abbrev pub lookNumber : Look → ℕ
 lookNumber Look.BadSetUp = 5
 lookNumber Look.Damaged = 6
-lookNumber (Look.Sound r) = 0
+lookNumber (Look.Sound e) = 0
 
 -- 5, then 6, then what the aim keeps of the table.
 unfoldable pub lookOf : BlockLand → List ℕ → Aim → Look
 lookOf h ws aim =
-    cond (setUp h ws) (cond (sound h ws) (Look.Sound (picked aim none-range (tableOf h ws))) Look.Damaged) Look.BadSetUp
+    cond (setUp h ws) (cond (sound h ws) (Look.Sound (entryOf aim (tableOf h ws))) Look.Damaged) Look.BadSetUp
 
 abbrev pub closedWith : BlockLand → ℕ → Size → BlockLand
 closedWith h n s = record { base = h .base; limit = h .limit; align = h .align; ranges = n; bytes = s }
@@ -37,11 +37,17 @@ pub record Readable (h : BlockLand) (ws : List ℕ) : Type 0 where
   pub good : setUp h ws ≡ true
   pub whole : sound h ws ≡ true
 
--- And the range of it that an aim keeps.
-pub record Aimed (h : BlockLand) (ws : List ℕ) (aim : Aim) (r : Range) : Type 0 where
+-- And the entry of it that an aim keeps.
+pub record Aimed (h : BlockLand) (ws : List ℕ) (aim : Aim) (e : Entry) : Type 0 where
   pub good : setUp h ws ≡ true
   pub whole : sound h ws ≡ true
-  pub kept : r ≡ picked aim none-range (tableOf h ws)
+  pub kept : e ≡ entryOf aim (tableOf h ws)
 
 abbrev pub findAim : BlockLand → Which → Size → Aim
 findAim h w n = Aim.Find w (record { 0 = findSize (align h) (n .0) })
+
+abbrev pub reachBase : Range → Aim
+reachBase y = Aim.Reach (y .base)
+
+abbrev pub reachLimit : Range → Aim
+reachLimit y = Aim.Reach (y .limit)

@@ -4,23 +4,24 @@ use crate::Changed;
 use crate::Look;
 use crate::refused;
 use block_edits::Edited;
+use block_words::Entry;
 use units::Aim;
 use units::Range;
 use units::RangeCheck;
 ghost use mathlib.Core.Path.{_≡_};
 ghost use Rattle.block_land.specs.Calls.{changed, deleted};
-ghost use Rattle.block_land.specs.Parts.{Readable};
+ghost use Rattle.block_land.specs.Parts.{Aimed, reachLimit};
 
 impl BlockLand {
-    // Delete from a sound table.
-    fn delete_at(self, nodes: &mut [u64], range: Range) -> Changed
-        requires { ⌜ Readable self (now nodes) ⌝ }
+    // Delete from a sound table, at the first range that reaches the limit of the request.
+    fn delete_at(self, nodes: &mut [u64], range: Range, entry: Entry) -> Changed
+        requires { ⌜ Aimed self (now nodes) (reachLimit range) entry ⌝ }
         ensures { λ r. ⌜ (r ≡ changed (deleted self (now (nodes .entry)) range)) × (now (nodes .exit) ≡ deleted self (now (nodes .entry)) range .words) ⌝ }
     {
         let RangeCheck::Good = self.good_arena().check_range(range) else {
             return refused(self, 4);
         };
-        match block_edits::cut_out(nodes, self.ranges, range) {
+        match block_edits::cut_out(nodes, self.ranges, entry.number, range) {
             Edited::Refused => refused(self, 1),
             Edited::Full => refused(self, 3),
             Edited::Done(old, count) => {
@@ -38,10 +39,14 @@ impl BlockLand {
     pub fn delete(self, nodes: &mut [u64], range: Range) -> Changed
         ensures { λ r. ⌜ (r ≡ changed (deleted self (now (nodes .entry)) range)) × (now (nodes .exit) ≡ deleted self (now (nodes .entry)) range .words) ⌝ }
     {
-        match self.look(nodes, Aim::Nothing) {
+        let limit = range.limit;
+        match self.look(nodes, Aim::Reach(limit)) {
             Look::BadSetUp => refused(self, 5),
             Look::Damaged => refused(self, 6),
-            Look::Sound(_) => self.delete_at(nodes, range),
+            Look::Sound(e) => {
+                let entry = e;
+                self.delete_at(nodes, range, entry)
+            }
         }
     }
 }

@@ -3,6 +3,7 @@ use crate::BlockLand;
 use crate::Found;
 use crate::Look;
 use block_edits::Edited;
+use block_words::Entry;
 use units::Aim;
 use units::Mode;
 use units::Range;
@@ -25,15 +26,16 @@ fn none_found(land: BlockLand, answer: u64) -> Found
 }
 
 impl BlockLand {
-    // A find in a sound table, at the range chosen.
-    fn find_at(self, nodes: &mut [u64], which: Which, size: Size, mode: Mode, here: Range) -> Found
-        requires { ⌜ Aimed self (now nodes) (findAim self which size) here ⌝ }
+    // A find in a sound table, at the entry chosen.
+    fn find_at(self, nodes: &mut [u64], which: Which, size: Size, mode: Mode, entry: Entry) -> Found
+        requires { ⌜ Aimed self (now nodes) (findAim self which size) entry ⌝ }
         ensures { λ r. ⌜ (r ≡ foundOf (found self (now (nodes .entry)) which (size .0) mode)) × (now (nodes .exit) ≡ found self (now (nodes .entry)) which (size .0) mode .words) ⌝ }
     {
         let arena = self.good_arena();
         let SizeCheck::Good = arena.check_find(which, size) else {
             return none_found(self, 4);
         };
+        let here = entry.here;
         if here.base.is_zero() {
             return none_found(self, 2);
         }
@@ -46,7 +48,12 @@ impl BlockLand {
                 old: here,
             };
         }
-        let Edited::Done(_, count) = block_edits::cut_out(nodes, self.ranges, part) else {
+        let Edited::Done(_, count) = block_edits::cut::cut_at(
+            nodes,
+            self.ranges,
+            entry.number,
+            part,
+        ) else {
             return none_found(self, 3);
         };
         let bytes = self.bytes.minus(part.size());
@@ -65,9 +72,9 @@ impl BlockLand {
         match self.look(nodes, Aim::Find(which, wanted)) {
             Look::BadSetUp => none_found(self, 5),
             Look::Damaged => none_found(self, 6),
-            Look::Sound(r) => {
-                let here = r;
-                self.find_at(nodes, which, size, mode, here)
+            Look::Sound(e) => {
+                let entry = e;
+                self.find_at(nodes, which, size, mode, entry)
             }
         }
     }

@@ -4,23 +4,24 @@ use crate::Changed;
 use crate::Look;
 use crate::refused;
 use block_edits::Edited;
+use block_words::Entry;
 use units::Aim;
 use units::Range;
 use units::RangeCheck;
 ghost use mathlib.Core.Path.{_≡_};
 ghost use Rattle.block_land.specs.Calls.{changed, inserted};
-ghost use Rattle.block_land.specs.Parts.{Readable};
+ghost use Rattle.block_land.specs.Parts.{Aimed, reachBase};
 
 impl BlockLand {
-    // Insert into a sound table.
-    fn insert_at(self, nodes: &mut [u64], range: Range) -> Changed
-        requires { ⌜ Readable self (now nodes) ⌝ }
+    // Insert into a sound table, at the first range that reaches the base of the request.
+    fn insert_at(self, nodes: &mut [u64], range: Range, entry: Entry) -> Changed
+        requires { ⌜ Aimed self (now nodes) (reachBase range) entry ⌝ }
         ensures { λ r. ⌜ (r ≡ changed (inserted self (now (nodes .entry)) range)) × (now (nodes .exit) ≡ inserted self (now (nodes .entry)) range .words) ⌝ }
     {
         let RangeCheck::Good = self.good_arena().check_range(range) else {
             return refused(self, 4);
         };
-        match block_edits::put_in(nodes, self.ranges, range) {
+        match block_edits::put_at(nodes, self.ranges, entry.number, range) {
             Edited::Refused => refused(self, 1),
             Edited::Full => refused(self, 3),
             Edited::Done(fresh, count) => {
@@ -38,10 +39,14 @@ impl BlockLand {
     pub fn insert(self, nodes: &mut [u64], range: Range) -> Changed
         ensures { λ r. ⌜ (r ≡ changed (inserted self (now (nodes .entry)) range)) × (now (nodes .exit) ≡ inserted self (now (nodes .entry)) range .words) ⌝ }
     {
-        match self.look(nodes, Aim::Nothing) {
+        let base = range.base;
+        match self.look(nodes, Aim::Reach(base)) {
             Look::BadSetUp => refused(self, 5),
             Look::Damaged => refused(self, 6),
-            Look::Sound(_) => self.insert_at(nodes, range),
+            Look::Sound(e) => {
+                let entry = e;
+                self.insert_at(nodes, range, entry)
+            }
         }
     }
 }

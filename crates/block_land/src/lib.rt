@@ -7,6 +7,7 @@ mod find;
 mod insert;
 mod open;
 
+use block_words::Entry;
 use block_words::Verdict;
 use units::Addr;
 use units::Aim;
@@ -57,11 +58,11 @@ pub struct Found {
     pub old: Range,
 }
 
-// What a call finds before it looks at its request: a bad set-up, a table that is not sound, or the range aimed at.
+// What a call finds before it looks at its request: a bad set-up, a table that is not sound, or the entry aimed at.
 pub enum Look {
     BadSetUp,
     Damaged,
-    Sound(Range),
+    Sound(Entry),
 }
 
 fn refused(land: BlockLand, answer: u64) -> Changed
@@ -117,7 +118,7 @@ impl BlockLand {
         let bytes = self.bytes;
         match block_words::survey(self.arena(), nodes, self.ranges, bytes, aim) {
             Verdict::Damaged => Look::Damaged,
-            Verdict::Sound(range) => Look::Sound(range),
+            Verdict::Sound(entry) => Look::Sound(entry),
         }
     }
 
@@ -137,8 +138,8 @@ impl BlockLand {
         match self.look(nodes, Aim::From(from)) {
             Look::BadSetUp => refused(self, 5),
             Look::Damaged => refused(self, 6),
-            Look::Sound(here) => {
-                let range = here;
+            Look::Sound(entry) => {
+                let range = entry.here;
                 if range.base.is_zero() {
                     return refused(self, 2);
                 }

@@ -5,6 +5,9 @@ pub mod Writing
 pub mod Zeros
 pub mod Tallying
 pub mod Ascending
-pub mod Scanning
+pub mod Judging
+pub mod Seeking
+pub mod Weighing
+pub mod Staying
 pub mod Sound
 pub mod Surveying

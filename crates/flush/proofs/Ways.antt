@@ -10,7 +10,7 @@ use types.Run.{OneOf}
 use denote.Enum.Declared.{tagOf}
 use borrow.Author.Tests.{not-true, not-false}
 use Rattle.units.specs.Rules.{setUpOf}
-use Rattle.units.specs.declared.Range.{Range}
+use Rattle.block_words.specs.declared.Entry.{Entry}
 use Rattle.units.specs.declared.aims.Aim.{Aim}
 use Rattle.units.specs.declared.rules.SetUp.{SetUp}
 use Rattle.units.proofs.Cases.{set-up-true, set-up-false}
@@ -92,7 +92,7 @@ module _ (h : ListLand) (ws : List ℕ) (k : BlockLand) (vs : List ℕ) (p : Set
               absurd (⊎-elim (λ x. omega arith) (λ x. omega arith) (rw d at f)))
               (λ t. rw (list-up, block-up, one, list-sound r fv, t))
 
-          pub check-good : (x : Range) → w ≡ block-look.Look.Sound x → FlushCheck.Good ≡ checkOf h ws k vs
+          pub check-good : (x : Entry) → w ≡ block-look.Look.Sound x → FlushCheck.Good ≡ checkOf h ws k vs
           unfolding checkOf block-parts.lookOf
           check-good x f =
               by (block.sound k vs)

@@ -120,7 +120,7 @@ pub fn survey(arena: Arena, words: &[u64], chain: Chain, aim: Aim) -> Verdict
     requires { ⌜ Ready arena (length (now words)) ⌝ }
     ensures { λ r. ⌜ r ≡ surveyOf arena (now (words .entry)) chain aim ⌝ }
 {
-    if !seeks::stays(aim) {
+    if !aim.stays() {
         return weigh(arena, words, chain, aim);
     }
     let Sought::At(s, c) = seeks::first(arena, words, chain.head, aim) else {

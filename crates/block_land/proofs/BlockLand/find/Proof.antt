@@ -27,8 +27,8 @@ enum-told-2 c = search needs
 none-found-requires-2 : tie.Need-none-found-requires-2
 none-found-requires-2 c κs = search needs
 
-enum-known-r : tie.Need-enum-known-r
-enum-known-r c = search needs
+enum-known-e : tie.Need-enum-known-e
+enum-known-e c = search needs
 
 find-at-requires : tie.Need-find-at-requires
 find-at-requires c κs = search find-aimed
@@ -70,7 +70,7 @@ find-spec =
     none-found-requires
     enum-told-2
     none-found-requires-2
-    enum-known-r
+    enum-known-e
     find-at-requires
     same-length
     returns

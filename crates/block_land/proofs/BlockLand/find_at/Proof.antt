@@ -5,7 +5,8 @@ use mathlib.Core.Path.{_≡_}
 use Rattle.model.specs.Calls.{good-size}
 use Rattle.model.proofs.Checks.{size-bad, size-good}
 use Rattle.block_land.specs.Layout.{arenaOf}
-use Rattle.block_land.proofs.FindAnswers.{aimed-positive, aimed-align, find-4, find-2, find-within, find-kept, find-ready, find-order, find-room, find-3, find-0}
+use Rattle.block_land.proofs.EditAnswers.{aimed-positive, aimed-align}
+use Rattle.block_land.proofs.FindAnswers.{find-4, find-2, find-within, find-kept, find-ready, find-order, find-room, find-3, find-0}
 use borrow.Author.Needs.{needs}
 use Rattle.block_land.proofs.BlockLand.find_at.Statement.{statement}
 use Rattle.block_land.proofs.BlockLand.find_at.Tie as tie
@@ -43,7 +44,7 @@ none-found-requires-2 c κs = search needs
 
 returns-2 : tie.Need-returns-2
 returns-2 c =
-    let checked = c .before .before .before in
+    let checked = c .before .before .before .before in
     let entry = checked .before .before .before .before .before in
     find-2 _ _ (entry .args .which) (entry .args .size) (entry .args .mode) _ (entry .pre) (good checked) _ (c .before .before .is-zero .ensures) (c .before .if1 .taken) _ (c .none-found2 .ensures)
 
@@ -52,7 +53,7 @@ find-size-requires c κs = search needs
 
 part-requires : tie.Need-part-requires
 part-requires c κs =
-    let checked = c .before .before .before in
+    let checked = c .before .before .before .before in
     let entry = checked .before .before .before .before .before in
     find-within _ _ (entry .args .which) (entry .args .size) (entry .args .mode) _ (entry .pre) (good checked) _ (c .before .before .is-zero .ensures) (c .before .if1 .left) _ (checked .before .before .before .good-arena .ensures) _ (c .find-size .ensures)
 
@@ -61,13 +62,13 @@ enum-told-2 c = search needs
 
 returns-3 : tie.Need-returns-3
 returns-3 c =
-    let checked = c .before .before .before .before .before .before in
+    let checked = c .before .before .before .before .before .before .before in
     let entry = checked .before .before .before .before .before in
     find-kept _ _ (entry .args .which) (entry .args .size) (entry .args .mode) _ (entry .pre) (good checked) _ (c .before .before .before .before .before .is-zero .ensures) (c .before .before .before .before .if1 .left) (c .enum-told2 .given .1)
 
-cut-out-requires : tie.Need-cut-out-requires
-cut-out-requires c κs =
-    let checked = c .before .before .before .before .before .before in
+cut-at-requires : tie.Need-cut-at-requires
+cut-at-requires c κs =
+    let checked = c .before .before .before .before .before .before .before in
     let entry = checked .before .before .before .before .before in
     find-ready _ _ (entry .args .which) (entry .args .size) (entry .args .mode) _ (entry .pre) (good checked) _ (c .before .before .before .before .before .is-zero .ensures) (c .before .before .before .before .if1 .left) (c .before .match2 .keys2) _ (checked .before .before .before .good-arena .ensures) _ (c .before .before .before .find-size .ensures) _ (c .before .before .part .ensures)
 
@@ -82,19 +83,19 @@ same-length c = search needs
 
 returns-4 : tie.Need-returns-4
 returns-4 c =
-    let checked = c .before .before .before .before .before .before .before .before .before .before .before in
+    let checked = c .before .before .before .before .before .before .before .before .before .before .before .before in
     let entry = checked .before .before .before .before .before in
-    find-3 _ _ (entry .args .which) (entry .args .size) (entry .args .mode) _ (entry .pre) (good checked) _ (c .before .before .before .before .before .before .before .before .before .before .is-zero .ensures) (c .before .before .before .before .before .before .before .before .before .if1 .left) (c .before .before .before .before .before .before .match2 .keys2) _ (checked .before .before .before .good-arena .ensures) _ (c .before .before .before .before .before .before .before .before .find-size .ensures) _ (c .before .before .before .before .before .before .before .part .ensures) _ _ (c .before .before .before .before .cut-out .ensures) (c .before .match3 .keys2) _ (c .none-found3 .ensures)
+    find-3 _ _ (entry .args .which) (entry .args .size) (entry .args .mode) _ (entry .pre) (good checked) _ (c .before .before .before .before .before .before .before .before .before .before .is-zero .ensures) (c .before .before .before .before .before .before .before .before .before .if1 .left) (c .before .before .before .before .before .before .match2 .keys2) _ (checked .before .before .before .good-arena .ensures) _ (c .before .before .before .before .before .before .before .before .find-size .ensures) _ (c .before .before .before .before .before .before .before .part .ensures) _ _ (c .before .before .before .before .cut-at .ensures) (c .before .match3 .keys2) _ (c .none-found3 .ensures)
 
 size-requires : tie.Need-size-requires
 size-requires c κs =
-    let checked = c .before .before .before .before .before .before .before .before .before .before .before .before in
+    let checked = c .before .before .before .before .before .before .before .before .before .before .before .before .before in
     let entry = checked .before .before .before .before .before in
     find-order _ _ (entry .args .which) (entry .args .size) (entry .args .mode) _ (entry .pre) (good checked) _ (c .before .before .before .before .before .before .before .before .before .before .before .is-zero .ensures) (c .before .before .before .before .before .before .before .before .before .before .if1 .left) (c .before .before .before .before .before .before .before .match2 .keys2) _ (checked .before .before .before .good-arena .ensures) _ (c .before .before .before .before .before .before .before .before .before .find-size .ensures) _ (c .before .before .before .before .before .before .before .before .part .ensures)
 
 minus-requires : tie.Need-minus-requires
 minus-requires c κs =
-    let checked = c .before .before .before .before .before .before .before .before .before .before .before .before .before in
+    let checked = c .before .before .before .before .before .before .before .before .before .before .before .before .before .before in
     let entry = checked .before .before .before .before .before in
     find-room _ _ (entry .args .which) (entry .args .size) (entry .args .mode) _ (entry .pre) (good checked) _ (c .before .before .before .before .before .before .before .before .before .before .before .before .is-zero .ensures) (c .before .before .before .before .before .before .before .before .before .before .before .if1 .left) (c .before .before .before .before .before .before .before .before .match2 .keys2) _ (checked .before .before .before .good-arena .ensures) _ (c .before .before .before .before .before .before .before .before .before .before .find-size .ensures) _ (c .before .before .before .before .before .before .before .before .before .part .ensures) _ (c .size .ensures)
 
@@ -106,9 +107,9 @@ same-length-2 c = search needs
 
 returns-5 : tie.Need-returns-5
 returns-5 c =
-    let checked = c .before .before .before .before .before .before .before .before .before .before .before .before .before .before .before in
+    let checked = c .before .before .before .before .before .before .before .before .before .before .before .before .before .before .before .before in
     let entry = checked .before .before .before .before .before in
-    find-0 _ _ (entry .args .which) (entry .args .size) (entry .args .mode) _ (entry .pre) (good checked) _ (c .before .before .before .before .before .before .before .before .before .before .before .before .before .before .is-zero .ensures) (c .before .before .before .before .before .before .before .before .before .before .before .before .before .if1 .left) (c .before .before .before .before .before .before .before .before .before .before .match2 .keys2) _ (checked .before .before .before .good-arena .ensures) _ (c .before .before .before .before .before .before .before .before .before .before .before .before .find-size .ensures) _ (c .before .before .before .before .before .before .before .before .before .before .before .part .ensures) _ _ (c .before .before .before .before .before .before .before .before .cut-out .ensures) _ _ (c .before .before .before .before .count .given .1) _ (c .before .before .size .ensures) _ (c .before .minus .ensures) _ (c .close .ensures)
+    find-0 _ _ (entry .args .which) (entry .args .size) (entry .args .mode) _ (entry .pre) (good checked) _ (c .before .before .before .before .before .before .before .before .before .before .before .before .before .before .is-zero .ensures) (c .before .before .before .before .before .before .before .before .before .before .before .before .before .if1 .left) (c .before .before .before .before .before .before .before .before .before .before .match2 .keys2) _ (checked .before .before .before .good-arena .ensures) _ (c .before .before .before .before .before .before .before .before .before .before .before .before .find-size .ensures) _ (c .before .before .before .before .before .before .before .before .before .before .before .part .ensures) _ _ (c .before .before .before .before .before .before .before .before .cut-at .ensures) _ _ (c .before .before .before .before .count .given .1) _ (c .before .before .size .ensures) _ (c .before .minus .ensures) _ (c .close .ensures)
 
 pub find-at-spec : {M : Type 1} → statement M
 find-at-spec =
@@ -126,7 +127,7 @@ find-at-spec =
     part-requires
     enum-told-2
     returns-3
-    cut-out-requires
+    cut-at-requires
     enum-known-count
     none-found-requires-3
     same-length

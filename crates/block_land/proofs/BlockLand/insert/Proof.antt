@@ -1,6 +1,6 @@
 -- `BlockLand::insert` meets its contract: 5, 6, and then the table. Assumes nothing.
 use mathlib.Core.Path.{refl}
-use Rattle.block_land.proofs.Answers.{saw-readable, is-insert, refuse-change, answers-5, answers-6}
+use Rattle.block_land.proofs.Answers.{saw-aimed, is-insert, refuse-change, answers-5, answers-6}
 use borrow.Author.Needs.{needs}
 use Rattle.block_land.proofs.BlockLand.insert.Statement.{statement}
 use Rattle.block_land.proofs.BlockLand.insert.Tie as tie
@@ -20,18 +20,18 @@ enum-told-2 c = search needs
 refused-requires-2 : tie.Need-refused-requires-2
 refused-requires-2 c κs = search needs
 
-enum-told-3 : tie.Need-enum-told-3
-enum-told-3 c = search needs
+enum-known-e : tie.Need-enum-known-e
+enum-known-e c = search needs
 
 insert-at-requires : tie.Need-insert-at-requires
-insert-at-requires c κs = search saw-readable
+insert-at-requires c κs = search saw-aimed
 
 same-length : tie.Need-same-length
 same-length c = search needs
 
 returns : tie.Need-returns
 returns c =
-    let entry = c .before .before .before .before .before .before in
+    let entry = c .before .before .before .before .before .before .before in
     refuse-change _ _ _ 5
     (answers-5 _ _ _ _ (c .before .before .before .look .ensures) _ _ (is-insert _ _ (entry .args .range)) (c .before .enum-told .given .1)) _
     (c .refused .ensures) _ refl
@@ -41,7 +41,7 @@ same-length-2 c = search needs
 
 returns-2 : tie.Need-returns-2
 returns-2 c =
-    let entry = c .before .before .before .before .before .before in
+    let entry = c .before .before .before .before .before .before .before in
     refuse-change _ _ _ 6
     (answers-6 _ _ _ _ (c .before .before .before .look .ensures) _ _ (is-insert _ _ (entry .args .range)) (c .before .enum-told2 .given .1)) _
     (c .refused2 .ensures) _ refl
@@ -61,7 +61,7 @@ insert-spec =
     refused-requires
     enum-told-2
     refused-requires-2
-    enum-told-3
+    enum-known-e
     insert-at-requires
     same-length
     returns

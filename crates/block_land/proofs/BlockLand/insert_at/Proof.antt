@@ -5,7 +5,7 @@ use mathlib.Core.Path.{_≡_}
 use Rattle.model.specs.Calls.{good-range}
 use Rattle.model.proofs.Checks.{range-bad, range-good}
 use Rattle.block_land.specs.Layout.{arenaOf}
-use Rattle.block_land.proofs.EditAnswers.{readable-positive, readable-align, sorted, edit-order, edit-order-le, insert-4, insert-1, insert-3, insert-room, insert-0}
+use Rattle.block_land.proofs.EditAnswers.{readable, aimed-spot, aimed-positive, aimed-align, sorted, edit-order, edit-order-le, insert-4, insert-1, insert-3, insert-room, insert-0}
 use borrow.Author.Needs.{needs}
 use Rattle.block_land.proofs.BlockLand.insert_at.Statement.{statement}
 use Rattle.block_land.proofs.BlockLand.insert_at.Tie as tie
@@ -18,10 +18,10 @@ good k =
     range-good (arenaOf (entry .args .self) []) _ (k .before .before .before .good-arena .ensures) (entry .args .range) _ (k .before .before .check-range .ensures) (k .enum-told .given .1)
 
 good-arena-requires : tie.Need-good-arena-requires
-good-arena-requires c κs = search readable-align
+good-arena-requires c κs = search aimed-align
 
 check-range-requires : tie.Need-check-range-requires
-check-range-requires c κs = search readable-positive
+check-range-requires c κs = search aimed-positive
 
 enum-told : tie.Need-enum-told
 enum-told c = search needs
@@ -32,15 +32,15 @@ refused-requires c κs = search needs
 returns : tie.Need-returns
 returns c =
     let entry = c .before .before .before .before .before in
-    insert-4 _ _ (entry .args .range) (entry .pre)
+    insert-4 _ _ (entry .args .range) (readable _ _ _ _ (entry .pre))
     (range-bad (arenaOf (entry .args .self) []) _ (c .before .before .before .good-arena .ensures) (entry .args .range) _ (c .before .before .check-range .ensures) (c .before .match .keys2))
     _ (c .refused .ensures)
 
-put-in-requires : tie.Need-put-in-requires
-put-in-requires c κs =
+put-at-requires : tie.Need-put-at-requires
+put-at-requires c κs =
     let checked = c .before in
     let entry = checked .before .before .before .before .before in
-    (sorted _ _ (entry .pre), edit-order _ _ (entry .args .range) (entry .pre) (good checked))
+    (sorted _ _ (readable _ _ _ _ (entry .pre)), (edit-order _ _ (entry .args .range) (readable _ _ _ _ (entry .pre)) (good checked), aimed-spot _ _ _ _ (entry .pre)))
 
 enum-told-2 : tie.Need-enum-told-2
 enum-told-2 c = search needs
@@ -61,13 +61,13 @@ size-requires : tie.Need-size-requires
 size-requires c κs =
     let checked = c .before .before .before .before .before .before .before in
     let entry = checked .before .before .before .before .before in
-    edit-order-le _ _ (entry .args .range) (entry .pre) (good checked)
+    edit-order-le _ _ (entry .args .range) (readable _ _ _ _ (entry .pre)) (good checked)
 
 plus-requires : tie.Need-plus-requires
 plus-requires c κs =
     let checked = c .before .before .before .before .before .before .before .before in
     let entry = checked .before .before .before .before .before in
-    insert-room _ _ (entry .args .range) (entry .pre) (good checked) _ _ (c .before .before .before .before .before .before .put-in .ensures) _ (c .size .ensures)
+    insert-room _ _ (entry .args .range) (readable _ _ _ _ (entry .pre)) (good checked) _ _ (c .before .before .before .before .before .before .put-at .ensures) _ (c .size .ensures)
 
 close-requires : tie.Need-close-requires
 close-requires c κs = search needs
@@ -79,7 +79,7 @@ returns-2 : tie.Need-returns-2
 returns-2 c =
     let checked = c .before .before .before .before .before .before .before in
     let entry = checked .before .before .before .before .before in
-    insert-1 _ _ (entry .args .range) (entry .pre) (good checked) _ _ (c .before .before .before .before .before .put-in .ensures) (c .before .enum-told2 .given .1) _ (c .refused2 .ensures)
+    insert-1 _ _ (entry .args .range) (readable _ _ _ _ (entry .pre)) (good checked) _ _ (c .before .before .before .before .before .put-at .ensures) (c .before .enum-told2 .given .1) _ (c .refused2 .ensures)
 
 same-length-2 : tie.Need-same-length-2
 same-length-2 c = search needs
@@ -88,7 +88,7 @@ returns-3 : tie.Need-returns-3
 returns-3 c =
     let checked = c .before .before .before .before .before .before .before in
     let entry = checked .before .before .before .before .before in
-    insert-3 _ _ (entry .args .range) (entry .pre) (good checked) _ _ (c .before .before .before .before .before .put-in .ensures) (c .before .enum-told3 .given .1) _ (c .refused3 .ensures)
+    insert-3 _ _ (entry .args .range) (readable _ _ _ _ (entry .pre)) (good checked) _ _ (c .before .before .before .before .before .put-at .ensures) (c .before .enum-told3 .given .1) _ (c .refused3 .ensures)
 
 same-length-3 : tie.Need-same-length-3
 same-length-3 c = search needs
@@ -97,7 +97,7 @@ returns-4 : tie.Need-returns-4
 returns-4 c =
     let checked = c .before .before .before .before .before .before .before .before .before .before in
     let entry = checked .before .before .before .before .before in
-    insert-0 _ _ (entry .args .range) (entry .pre) (good checked) _ _ (c .before .before .before .before .before .before .before .before .put-in .ensures) _ _ (c .before .before .before .before .fresh .given .1) _ (c .before .before .size .ensures) _ (c .before .plus .ensures) _ (c .close .ensures)
+    insert-0 _ _ (entry .args .range) (readable _ _ _ _ (entry .pre)) (good checked) _ _ (c .before .before .before .before .before .before .before .before .put-at .ensures) _ _ (c .before .before .before .before .fresh .given .1) _ (c .before .before .size .ensures) _ (c .before .plus .ensures) _ (c .close .ensures)
 
 pub insert-at-spec : {M : Type 1} → statement M
 insert-at-spec =
@@ -108,7 +108,7 @@ insert-at-spec =
     enum-told
     refused-requires
     returns
-    put-in-requires
+    put-at-requires
     enum-told-2
     refused-requires-2
     enum-told-3

@@ -25,8 +25,8 @@ survey-requires c κs = search look-ways
 enum-told-3 : tie.Need-enum-told-3
 enum-told-3 c = search needs
 
-enum-known-range : tie.Need-enum-known-range
-enum-known-range c = search needs
+enum-known-entry : tie.Need-enum-known-entry
+enum-known-entry c = search needs
 
 returns-2 : tie.Need-returns-2
 returns-2 c = search look-ways
@@ -45,6 +45,6 @@ look-spec =
     arena-requires
     survey-requires
     enum-told-3
-    enum-known-range
+    enum-known-entry
     returns-2
     returns-3)

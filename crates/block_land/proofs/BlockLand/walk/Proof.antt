@@ -21,8 +21,8 @@ enum-told-2 c = search needs
 refused-requires-2 : tie.Need-refused-requires-2
 refused-requires-2 c κs = search needs
 
-enum-known-here : tie.Need-enum-known-here
-enum-known-here c = search needs
+enum-known-entry : tie.Need-enum-known-entry
+enum-known-entry c = search needs
 
 is-zero-requires : tie.Need-is-zero-requires
 is-zero-requires c κs = search needs
@@ -32,9 +32,9 @@ refused-requires-3 c κs = search needs
 
 returns : tie.Need-returns
 returns c =
-    let look = c .before .before .before .before .before .before in
+    let look = c .before .before .before .before .before .before .before in
     let entry = look .before .before in
-    walk-2 _ _ (entry .args .from) _ (look .look .ensures) _ (c .before .before .before .before .here .given .1) _ (c .before .before .is-zero .ensures)
+    walk-2 _ _ (entry .args .from) _ (look .look .ensures) _ (c .before .before .before .before .before .entry .given .1) _ (c .before .before .is-zero .ensures)
     (c .before .if1 .taken) _ (c .refused3 .ensures)
 
 returns-2 : tie.Need-returns-2
@@ -55,9 +55,9 @@ returns-3 c =
 
 returns-4 : tie.Need-returns-4
 returns-4 c =
-    let look = c .before .before .before .before .before in
+    let look = c .before .before .before .before .before .before in
     let entry = look .before .before in
-    walk-0 _ _ (entry .args .from) _ (look .look .ensures) _ (c .before .before .before .here .given .1) _ (c .before .is-zero .ensures) (c .if1 .left)
+    walk-0 _ _ (entry .args .from) _ (look .look .ensures) _ (c .before .before .before .before .entry .given .1) _ (c .before .is-zero .ensures) (c .if1 .left)
 
 pub walk-spec : {M : Type 1} → statement M
 walk-spec =
@@ -68,7 +68,7 @@ walk-spec =
     refused-requires
     enum-told-2
     refused-requires-2
-    enum-known-here
+    enum-known-entry
     is-zero-requires
     refused-requires-3
     returns
