@@ -1,7 +1,7 @@
 /* Limbegoru: sets of free address ranges, for a host in C or C++.
  *
- * Link with libcapi.a (host/c/build makes it). Every call is proved to do what its comment says; the declarations in this
- * file are not: nothing checks them but the tests.
+ * Link with liblimbegoru.a (host/c/build makes it). Every call is proved to do what its comment says; the declarations in
+ * this file are not: nothing checks them but the tests.
  *
  * A land keeps the free ranges of an arena [base, limit). An address is a number of the host's own choice, at most 2^40:
  * the word at address a is words[(a - base) / 8]. Handles go in by value and the next one comes back: keep the handle that

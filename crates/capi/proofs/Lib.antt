@@ -1,4 +1,3 @@
 pub mod GivenModes
 pub mod ListRefusing
 pub mod BlockRefusing
-pub mod PassingOn

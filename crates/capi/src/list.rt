@@ -113,25 +113,3 @@ pub extern "C" fn lg_list_walk(land: ListLand, words: &[u64], from: u64) -> Chan
 {
     land.walk(words, Addr::new(from))
 }
-
-// The calls for a host that keeps the handle in a structure of its own: the next handle is stored where the old one stood.
-#[no_mangle]
-pub extern "C" fn lg_list_insert_at(land: &mut ListLand, words: &mut [u64], range: Range) -> Changed
-    ensures { λ r. ⌜ (r ≡ changed (inserted (now (land .entry)) (now (words .entry)) range)) × (now (land .exit) ≡ r .land) × (now (words .exit) ≡ inserted (now (land .entry)) (now (words .entry)) range .words) ⌝ }
-{
-    thin::insert(land, words, range)
-}
-
-#[no_mangle]
-pub extern "C" fn lg_list_delete_at(land: &mut ListLand, words: &mut [u64], range: Range) -> Changed
-    ensures { λ r. ⌜ (r ≡ changed (deleted (now (land .entry)) (now (words .entry)) range)) × (now (land .exit) ≡ r .land) × (now (words .exit) ≡ deleted (now (land .entry)) (now (words .entry)) range .words) ⌝ }
-{
-    thin::delete(land, words, range)
-}
-
-#[no_mangle]
-pub extern "C" fn lg_list_walk_at(land: &mut ListLand, words: &[u64], from: Addr) -> Changed
-    ensures { λ r. ⌜ (r ≡ changed (walked (now (land .entry)) (now (words .entry)) (from .0))) × (now (land .exit) ≡ r .land) ⌝ }
-{
-    thin::walk(land, words, from)
-}

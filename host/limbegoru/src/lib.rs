@@ -23,7 +23,7 @@
 //! # Ok::<(), Refusal>(())
 //! ```
 //!
-//! The archive `libcapi.a` is made by `host/c/build`; `LIMBEGORU_ARCHIVE_DIR` names its folder if it stands elsewhere.
+//! The archive `liblimbegoru.a` is made by `host/c/build`; `LIMBEGORU_ARCHIVE_DIR` names its folder if it is elsewhere.
 #![deny(missing_docs)]
 #![deny(unsafe_op_in_unsafe_fn)]
 

@@ -4,11 +4,11 @@ use denote.Triple.Spec.{tripleOf}
 use denote.Triple.Table.{entered, cited}
 use Rattle.thin.proofs.insert.Symbol as thin
 use Rattle.thin.proofs.insert.Met as theorem
-use Rattle.capi.proofs.PassingOn.{Thin, passing}
-use Rattle.capi.proofs.list.lg_list_insert_at.Key as key
-use Rattle.capi.proofs.list.lg_list_insert_at as self
-use Rattle.capi.proofs.list.lg_list_insert_at.Statement as stated
-use Rattle.capi.proofs.list.lg_list_insert_at.Code as code
+use Rattle.capi_thin.proofs.PassingOn.{Thin, passing}
+use Rattle.capi_thin.proofs.lg_list_insert_at.Key as key
+use Rattle.capi_thin.proofs.lg_list_insert_at as self
+use Rattle.capi_thin.proofs.lg_list_insert_at.Statement as stated
+use Rattle.capi_thin.proofs.lg_list_insert_at.Code as code
 
 pub lg-list-insert-at-spec : {M : Type 1} → stated.statement M
 unfolding code.routine tablesOf

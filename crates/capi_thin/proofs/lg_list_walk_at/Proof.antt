@@ -45,10 +45,10 @@ use Rattle.list_land.proofs.Changed.Laws as I′
 use Rattle.thin.proofs.Handle.{released}
 use Rattle.thin.proofs.walk.Symbol as thin
 use Rattle.thin.proofs.walk.Met as theorem
-use Rattle.capi.proofs.list.lg_list_walk_at.Key as key
-use Rattle.capi.proofs.list.lg_list_walk_at as self
-use Rattle.capi.proofs.list.lg_list_walk_at.Statement as stated
-use Rattle.capi.proofs.list.lg_list_walk_at.Code as code
+use Rattle.capi_thin.proofs.lg_list_walk_at.Key as key
+use Rattle.capi_thin.proofs.lg_list_walk_at as self
+use Rattle.capi_thin.proofs.lg_list_walk_at.Statement as stated
+use Rattle.capi_thin.proofs.lg_list_walk_at.Code as code
 
 -- Nothing of the parameters is kept to the end.
 abbrev Words : Slot 2
