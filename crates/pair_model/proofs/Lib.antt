@@ -1,1 +1,12 @@
 pub mod PairCasesHold
+pub mod LandTouches
+pub mod LandFinds
+pub mod LandSums
+pub mod Turns
+pub mod PairFlushing
+pub mod InsertTurns
+pub mod Covering
+pub mod HandingOver
+pub mod DeleteTurns
+pub mod FindTurns
+pub mod PairAlike
