@@ -10,3 +10,6 @@ pub mod HandingOver
 pub mod DeleteTurns
 pub mod FindTurns
 pub mod PairAlike
+pub mod PairLaws
+pub mod PairTwosTrue
+pub mod PairDemandMet
