@@ -52,10 +52,10 @@ module _ (a : Arena) (b l : ℕ) (g : good-range a b l ≡ true) (s : Sets) (f :
   refusal k z h = refused-turn a (delete b l) s f k z h
 
   -- all its bytes are in one land: then they are free
-  free-list : holds b l (s .list) ≡ true → every-marked (either (pair-up s)) b n ≡ true
+  pub free-list : holds b l (s .list) ≡ true → every-marked (either (pair-up s)) b n ≡ true
   free-list h = every-all (either (pair-up s)) b n (λ x p q. rw (holds-all b l (s .list) h x p (omega (arith, order))))
 
-  free-block : holds b l (s .block) ≡ true → every-marked (either (pair-up s)) b n ≡ true
+  pub free-block : holds b l (s .block) ≡ true → every-marked (either (pair-up s)) b n ≡ true
   free-block h = every-all (either (pair-up s)) b n (λ x p q. rw (holds-all b l (s .block) h x p (omega (arith, order)), or-true))
 
   pub deleted : Turn a (delete b l) s

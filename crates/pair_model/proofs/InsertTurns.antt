@@ -76,27 +76,36 @@ module _ (a : Arena) (b l : ℕ) (g : good-range a b l ≡ true) where
         let p = no-overlap b l (a .base) (a .limit) (d .list) k (f .list-fine .canon .apart) no-list in
         by (fits (a .room) (length (insert-in b l (d .block)))) (λ e. rw (g, o, e)) (λ e. rw (g, o, e, p))
 
-  module _ (s : Sets) (f : PairFine a s) where
-    inserted : overlaps b l (s .list) ≡ false → overlaps b l (s .block) ≡ false →
-        Turn a (insert b l) s (recorded a b l (flushed a (isolated a (marksOf (s .list))) (pair-up s))) (insert-flushed a b l (flush a (s .list) (s .block)))
-    inserted p q =
-        let d = ends (flush a (s .list) (s .block)) in
-        let h = pair-flushed a (s .list) (s .block) f in
-        let k = flushes a (s .list) (s .block) (f .list-fine) (f .block-fine) in
-        let none : (x : ℕ) → b ≤ x → x < l → either (pair-up d) x ≡ false =
-        λ x i j. k .bytes x ∙ ap₂ _||_ (overlaps-none b l (s .list) p x i j) (overlaps-none b l (s .block) q x i j) in
-        let t = flushed-turn d (h .fine) none in
-        let z = flushed-accepted d (h .fine) none in
+  -- after the flush
+  module _ (s : Sets) (f : PairFine a s) (p : overlaps b l (s .list) ≡ false) (q : overlaps b l (s .block) ≡ false) where
+    abbrev d : Sets
+    d = ends (flush a (s .list) (s .block))
+
+    flush-fine : PairFine a d
+    flush-fine = pair-flushed a (s .list) (s .block) f .fine
+
+    kept : Flushes a (s .list) (s .block) (flush a (s .list) (s .block))
+    kept = flushes a (s .list) (s .block) (f .list-fine) (f .block-fine)
+
+    none-free : (x : ℕ) → b ≤ x → x < l → either (pair-up d) x ≡ false
+    none-free x i j = kept .bytes x ∙ ap₂ _||_ (overlaps-none b l (s .list) p x i j) (overlaps-none b l (s .block) q x i j)
+
+    pub inserted-0 : insert-flushed a b l (flush a (s .list) (s .block)) .out .answer ≡ 0
+    inserted-0 = flushed-accepted d flush-fine none-free
+
+    inserted : Turn a (insert b l) s (recorded a b l (flushed a (isolated a (marksOf (s .list))) (pair-up s))) (insert-flushed a b l (flush a (s .list) (s .block)))
+    inserted =
+        let t = flushed-turn d flush-fine none-free in
         let o = insert-flushed a b l (flush a (s .list) (s .block)) .out in
         record {
           same = ap (λ (rs : List Range). recorded a b l (flushed a rs (pair-up s))) (told-same (unlimited a) (s .list) (f .list-fine))
-              ∙ ap (recorded a b l) (h .same)
+              ∙ ap (recorded a b l) (pair-flushed a (s .list) (s .block) f .same)
               ∙ t .same;
           fine = t .fine;
-          kept = λ y. absurd (y z);
+          kept = λ y. absurd (y inserted-0);
           fair = t .fair;
-          touches = λ x. t .touches x ∙ ap (or-as-before (touch (made (land.insert b l) o) x)) (k .bytes x);
-          sums = t .sums ∙ ap (λ (n : ℕ). n + put-in (insert b l) o) (k .sum);
+          touches = λ x. t .touches x ∙ ap (or-as-before (touch (made (land.insert b l) o) x)) (kept .bytes x);
+          sums = t .sums ∙ ap (λ (n : ℕ). n + put-in (insert b l) o) (kept .sum);
         }
 
 pub insert-turn : (a : Arena) (b l : ℕ) (s : Sets) → PairFine a s → Turn a (insert b l) s (pair-reference a (insert b l) (pair-up s)) (pair-insert a b l s)

@@ -13,3 +13,4 @@ pub mod PairAlike
 pub mod PairLaws
 pub mod PairTwosTrue
 pub mod PairDemandMet
+pub mod PairRowsHold
