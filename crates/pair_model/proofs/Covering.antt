@@ -10,7 +10,7 @@ use Rattle.units.proofs.Tests.{by, tests, and-left, and-right, and-second, same
 use Rattle.model.specs.Marks.{Range, Marks, within, every-marked}
 use Rattle.model.specs.Lists.{Apart, marksOf}
 use Rattle.model.proofs.Bytes.{in-yes, in-below, in-above, below}
-use Rattle.pair_model.specs.Pairs.{inside}
+use Rattle.pair_model.specs.Pairs.{both, inside, all-inside}
 
 -- how many of the n bytes from b on are marked
 abbrev count : Marks → ℕ → ℕ → ℕ
@@ -112,7 +112,7 @@ count-inside b l lo hi (r ∷ rs) k h =
 
 pub all-inside-same : (b l lo hi : ℕ) (rs qs : List Range) → b ≤ l → Apart lo hi rs → Apart lo hi qs →
     ((x : ℕ) → marksOf rs x ≡ true → marksOf qs x ≡ false) →
-    eqb (inside b l rs + inside b l qs) (l - b) ≡ every-marked (λ x. marksOf rs x || marksOf qs x) b (l - b)
+    all-inside b l (both rs qs) ≡ every-marked (λ x. marksOf rs x || marksOf qs x) b (l - b)
 all-inside-same b l lo hi rs qs k h g d =
     rw (← count-inside b l lo hi rs k h, ← count-inside b l lo hi qs k g, ← count-or (marksOf rs) (marksOf qs) b (l - b) d)
     (sym (every-count (λ x. marksOf rs x || marksOf qs x) b (l - b)))

@@ -20,7 +20,7 @@ use Rattle.model.proofs.Bytewise.{any-same, overlaps-none, overlaps-one}
 use Rattle.model.proofs.Requests.{range-rules}
 use Rattle.model.proofs.Flushing.{flushes}
 use Rattle.model.proofs.DemandMet.{reference-up, told-same}
-use Rattle.pair_model.specs.Pairs.{Both, both, PairCall, insert, Sets, list-step, block-step, insert-flushed, pair-insert}
+use Rattle.pair_model.specs.Pairs.{Both, both, PairCall, insert, Sets, list-step, block-step, any-free, insert-flushed, pair-insert}
 use Rattle.pair_model.specs.PairReference.{either, flushed, recorded, block-ledger, pair-reference}
 use Rattle.pair_model.specs.PairLayouts.{PairFine, pair-up}
 use Rattle.pair_model.specs.PairDemand.{put-in}
@@ -34,11 +34,17 @@ shuffle false true r t = sym (or-true r)
 shuffle false false r t = refl
 
 -- a byte of the range is free in either land exactly if one is free in the one or in the other
-pub some-either : (p q : Marks) (b n : ℕ) → some-marked (λ x. p x || q x) b n ≡ (some-marked p b n || some-marked q b n)
+some-either : (p q : Marks) (b n : ℕ) → some-marked (λ x. p x || q x) b n ≡ (some-marked p b n || some-marked q b n)
 some-either p q b zero = refl
 some-either p q b (suc n) =
     ap (λ (t : Bool). (p b || q b) || t) (some-either p q (suc b) n)
     ∙ shuffle (p b) (q b) (some-marked p (suc b) n) (some-marked q (suc b) n)
+
+pub any-free-same : (b l lo hi : ℕ) (s : Sets) → b < l → Apart lo hi (s .list) → Apart lo hi (s .block) →
+    some-marked (either (pair-up s)) b (l - b) ≡ any-free b l s
+any-free-same b l lo hi s k h g =
+    some-either (marksOf (s .list)) (marksOf (s .block)) b (l - b)
+    ∙ ap₂ _||_ (sym (any-same b l lo hi (s .list) k h)) (sym (any-same b l lo hi (s .block) k g))
 
 -- a range none of whose bytes is in the ranges overlaps none
 pub no-overlap : (b l lo hi : ℕ) (rs : List Range) → b < l → Apart lo hi rs → ((x : ℕ) → b ≤ x → x < l → marksOf rs x ≡ false) → overlaps b l rs ≡ false
@@ -111,10 +117,8 @@ module _ (a : Arena) (b l : ℕ) (g : good-range a b l ≡ true) where
 pub insert-turn : (a : Arena) (b l : ℕ) (s : Sets) → PairFine a s → Turn a (insert b l) s (pair-reference a (insert b l) (pair-up s)) (pair-insert a b l s)
 insert-turn a b l s f =
     guard (good-range a b l) (good-range a b l) _ _ _ _ refl
-    (λ g. let k = range-rules a b l g .order in
-    guard (overlaps b l (s .list) || overlaps b l (s .block)) (some-marked (either (pair-up s)) b (l - b)) _ _ _ _
-    (some-either (marksOf (s .list)) (marksOf (s .block)) b (l - b)
-    ∙ ap₂ _||_ (sym (any-same b l (a .base) (a .limit) (s .list) k (f .list-fine .canon .apart))) (sym (any-same b l (a .base) (a .limit) (s .block) k (f .block-fine .canon .apart))))
+    (λ g. guard _ _ _ _ _ _
+    (any-free-same b l (a .base) (a .limit) s (range-rules a b l g .order) (f .list-fine .canon .apart) (f .block-fine .canon .apart))
     (λ e. refused-turn a (insert b l) s f 1 (λ z. omega arith) ((λ z. omega arith), (λ z. omega arith), (λ z. omega arith)))
     (λ e. inserted a b l g s f (or-left _ _ e) (or-right (overlaps b l (s .list)) _ e)))
     (λ g. refused-turn a (insert b l) s f 4 (λ z. omega arith) ((λ z. omega arith), (λ z. omega arith), (λ z. omega arith)))

@@ -16,14 +16,14 @@ use Rattle.model.specs.Calls.{Arena, Step, good-range, good-size, find-size}
 use Rattle.model.specs.Steps.{choose, fits}
 use Rattle.model.specs.Flushing.{flush}
 use Rattle.model.specs.Answers.{Proper, Conflict}
-use Rattle.model.proofs.Bytewise.{any-same, all-same}
+use Rattle.model.proofs.Bytewise.{all-same}
 use Rattle.model.proofs.Requests.{range-rules}
 use Rattle.model.proofs.Deciding.{Decides, decide-proper, decide-conflict}
-use Rattle.pair_model.specs.Pairs.{Both, PairCall, insert, delete, find, as-call, Sets, keep, in-list, insert-flushed, list-step, delete-in-block, all-inside, find-in, pair-step}
+use Rattle.pair_model.specs.Pairs.{Both, PairCall, insert, delete, find, as-call, Sets, keep, in-list, any-free, insert-flushed, list-step, delete-in-block, all-inside, find-in, pair-step}
 use Rattle.pair_model.specs.PairReference.{either, pair-reference}
 use Rattle.pair_model.specs.PairLayouts.{PairFine, pair-up}
 use Rattle.pair_model.specs.PairAnswers.{PairProper, PairConflict, PairNoRange, NoneHolds, PairRows}
-use Rattle.pair_model.proofs.InsertTurns.{some-either, inserted-0}
+use Rattle.pair_model.proofs.InsertTurns.{any-free-same, inserted-0}
 use Rattle.pair_model.proofs.Covering.{all-inside-same}
 use Rattle.pair_model.proofs.DeleteTurns.{free-list, free-block}
 use Rattle.pair_model.proofs.PairTwosTrue.{pair-0-2}
@@ -90,10 +90,10 @@ decide-and : {P Q : Type 0} (p q : Bool) → Decides p P → Decides q Q → Dec
 decide-and p q d e = (λ z. (d .0 (and-left p q z), e .0 (and-right p q z)), λ w. rw (d .1 (w .0), e .1 (w .1)))
 
 -- the answers of an insert and of a delete, by the tests
-insert-answer : (g o : Bool) (n : ℕ) → (g ≡ true → o ≡ false → n ≡ 0) → cond g (cond o 1 n) 4 ≡ number g o false false
-insert-answer true true n h = refl
-insert-answer true false n h = h refl refl
-insert-answer false o n h = refl
+insert-answer : (g t o : Bool) (n : ℕ) → (g ≡ true → t ≡ o) → (g ≡ true → o ≡ false → n ≡ 0) → cond g (cond o 1 n) 4 ≡ number g t false false
+insert-answer true t true n e h = rw (e refl)
+insert-answer true t false n e h = rw (e refl) (h refl refl)
+insert-answer false t o n e h = refl
 
 delete-answer : (g all il ib hl hb ai : Bool) (nl nb : ℕ) → (g ≡ true → (il ≡ hl) × (ib ≡ hb) × (ai ≡ all)) →
     (g ≡ true → hl ≡ true → (all ≡ true) × (nl ≡ 0)) → (g ≡ true → hb ≡ true → (all ≡ true) × (nb ≡ 0)) →
@@ -117,28 +117,16 @@ module _ (a : Arena) (s : Sets) (f : PairFine a s) where
 
   insert-rows : (b l : ℕ) → Rows (insert b l) (pair-step a (insert b l) s .out .answer)
   insert-rows b l =
-      let ov = overlaps b l (s .list) || overlaps b l (s .block) in
       let into = insert-flushed a b l (flush a (s .list) (s .block)) in
       let number-is : pair-step a (insert b l) s .out .answer ≡ number (good-range a b l) (some-marked (either m) b (l - b)) false false =
-      answer-if (good-range a b l) (cond ov (keep 1 s) into) (keep 4 s)
-      ∙ ap (λ (n : ℕ). cond (good-range a b l) n 4) (answer-if ov (keep 1 s) into)
-      ∙ with-marks b l (good-range a b l) refl ov refl (into .out .answer)
+      answer-if (good-range a b l) (cond (any-free b l s) (keep 1 s) into) (keep 4 s)
+      ∙ ap (λ (n : ℕ). cond (good-range a b l) n 4) (answer-if (any-free b l s) (keep 1 s) into)
+      ∙ insert-answer (good-range a b l) (some-marked (either m) b (l - b)) (any-free b l s) (into .out .answer)
+      (λ g. any-free-same b l (a .base) (a .limit) s (range-rules a b l g .order) (f .list-fine .canon .apart) (f .block-fine .canon .apart))
       (λ g o. inserted-0 a b l g s f (or-left _ _ o) (or-right (overlaps b l (s .list)) _ o)) in
       rw number-is
       (rows-of (good-range a b l) (some-marked (either m) b (l - b)) false false
       (decide-proper a (land.insert b l)) (decide-conflict (land.insert b l) (either m)) (decide-no (λ w. w .0)) (decide-no (λ w. w)) (λ n h. h))
-    where
-      with-marks : (b l : ℕ) (g : Bool) → good-range a b l ≡ g → (o : Bool) → (overlaps b l (s .list) || overlaps b l (s .block)) ≡ o → (n : ℕ) →
-          (good-range a b l ≡ true → (overlaps b l (s .list) || overlaps b l (s .block)) ≡ false → n ≡ 0) →
-          cond g (cond o 1 n) 4 ≡ number g (some-marked (either m) b (l - b)) false false
-      with-marks b l false e o d n h = refl
-      with-marks b l true e o d n h =
-          let k = range-rules a b l e .order in
-          let same : o ≡ some-marked (either m) b (l - b) =
-          sym d
-          ∙ ap₂ _||_ (any-same b l (a .base) (a .limit) (s .list) k (f .list-fine .canon .apart)) (any-same b l (a .base) (a .limit) (s .block) k (f .block-fine .canon .apart))
-          ∙ sym (some-either (marksOf (s .list)) (marksOf (s .block)) b (l - b)) in
-          rw (← same) (insert-answer true o n (λ g' o'. h e (d ∙ o')))
 
   list-0 : (b l : ℕ) → good-range a b l ≡ true → holds b l (s .list) ≡ true → list-step a (land.delete b l) (s .list) .out .answer ≡ 0
   list-0 b l g h = rw (g, h)

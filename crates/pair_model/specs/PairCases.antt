@@ -65,9 +65,9 @@ pair-cases =
     ∷ record { before = both (only 4104 4112) (only 4096 4104); call = insert 4120 4128; out = gives 4120 4128; after = both (only 4120 4128) (only 4096 4112) }
     -- into the block land where the range merges there; no second flush, although the list's range would now fit
     ∷ record { before = both (only 4112 4120) (only 4096 4104); call = insert 4104 4112; out = gives 4096 4112; after = both (only 4112 4120) (only 4096 4112) }
-    -- a byte is free in the list: no flush in a refused call
+    -- a byte is free in the list, or in the block land: no flush in a refused call
     ∷ record { before = both (only 4112 4120) []; call = insert 4104 4128; out = refused 1; after = both (only 4112 4120) [] }
-    ∷ record { before = both [] (only 4112 4120); call = insert 4104 4128; out = refused 1; after = both [] (only 4112 4120) }
+    ∷ record { before = both (only 4104 4112) (only 4112 4120); call = insert 4112 4128; out = refused 1; after = both (only 4104 4112) (only 4112 4120) }
     ∷ record { before = both (only 4112 4120) []; call = insert 4104 4108; out = refused 4; after = both (only 4112 4120) [] }
     -- the upper fragment goes to the list, and merges there with a range that it touches
     ∷ record { before = both (only 4120 4128) (only 4096 4120); call = delete 4104 4112; out = gives 4096 4120; after = both (only 4112 4128) (only 4096 4104) }
