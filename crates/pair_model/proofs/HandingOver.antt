@@ -151,6 +151,7 @@ module _ (a : Arena) (b l : ℕ) (g : good-range a b l ≡ true) (s : Sets) (f :
       fine = next-fine;
       kept = λ z. absurd (z refl);
       fair = ((λ z. omega arith), (λ z. omega arith), (λ z. omega arith));
+      empty = λ z. absurd (z refl);
       touches = λ x. ap₂ _||_ (list-next x) (block-next x)
           ∙ moved-byte b l (q .limit) x (marksOf (s .list) x) (marksOf (s .block) x) (rules .order) (in-q .high) (not-in-list x) (in-block-land x);
       sums =

@@ -110,6 +110,7 @@ module _ (a : Arena) (b l : ℕ) (g : good-range a b l ≡ true) where
           fine = t .fine;
           kept = λ y. absurd (y inserted-0);
           fair = t .fair;
+          empty = λ y. absurd (y inserted-0);
           touches = λ x. t .touches x ∙ ap (or-as-before (touch (made (land.insert b l) o) x)) (kept .bytes x);
           sums = t .sums ∙ ap (λ (n : ℕ). n + put-in (insert b l) o) (kept .sum);
         }

@@ -14,3 +14,4 @@ pub mod PairLaws
 pub mod PairTwosTrue
 pub mod PairDemandMet
 pub mod PairRowsHold
+pub mod PairCalling

@@ -1,6 +1,6 @@
 -- The layout of a pair keeps its laws, from those of the two lands. Assumes nothing.
 use mathlib.Core.Path.{_≡_, refl, sym, ap₂, subst}
-use mathlib.Core.Bool.{Bool, true, false, cond, _&&_, _||_}
+use mathlib.Core.Bool.{Bool, true, false, cond, _&&_, _||_, or-true}
 use mathlib.Core.List.{List, [], _∷_}
 use mathlib.Core.Option.{none}
 use Prim.Native.Nat.{ℕ, suc}
@@ -18,27 +18,29 @@ use Rattle.model.proofs.Bytes.{in-yes}
 use Rattle.model.proofs.Bytewise.{overlaps-none, overlaps-one}
 use Rattle.pair_model.specs.Pairs.{Both, both, Sets}
 use Rattle.pair_model.specs.PairLayouts.{PairFine, pair-told, meet, same-arena, bad-set-up, pair-sound, pair-reading, pair-read, pair-layout}
+use Rattle.pair_model.specs.PairAnswers.{Common}
 
 -- LANDS THAT DO NOT OVERLAP HAVE NO BYTE IN COMMON
-meet-disjoint : (rs qs : List Range) → meet rs qs ≡ false → (x : ℕ) → marksOf rs x ≡ true → marksOf qs x ≡ false
+pub meet-disjoint : (rs qs : List Range) → meet rs qs ≡ false → (x : ℕ) → marksOf rs x ≡ true → marksOf qs x ≡ false
 meet-disjoint [] qs m x e = clash e refl
 meet-disjoint (r ∷ rs) qs m x e =
     by (within (r .base) (r .limit) x)
     (λ w. overlaps-none (r .base) (r .limit) qs (or-left _ _ m) x (leb-true (r .base) x (and-left _ _ w)) (ltb-true x (r .limit) (and-right (leb (r .base) x) _ w)))
     (λ w. meet-disjoint rs qs (or-right (overlaps (r .base) (r .limit) qs) _ m) x (or-second (within (r .base) (r .limit) x) _ e w))
 
-later : (p q : Bool) → q ≡ true → (p || q) ≡ true
-later true q e = refl
-later false q e = e
+-- and lands that overlap have one
+pub meet-common : (lo hi lo' hi' : ℕ) (rs qs : List Range) → Apart lo hi rs → Apart lo' hi' qs → meet rs qs ≡ true → Common (both rs qs)
+meet-common lo hi lo' hi' [] qs h k m = clash m refl
+meet-common lo hi lo' hi' (r ∷ rs) qs h k m =
+    by (overlaps (r .base) (r .limit) qs)
+    (λ e. let w = overlaps-one (r .base) (r .limit) lo' hi' qs (h .1) k e in
+    (w .0, rw (in-yes (r .base) (r .limit) (w .0) (w .1) (w .2)), w .3))
+    (λ e. let w = meet-common (suc (r .limit)) hi lo' hi' rs qs (h .3) k (rw e at m) in (w .0, rw (w .1, or-true), w .2))
 
 disjoint-meet : (lo hi lo' hi' : ℕ) (rs qs : List Range) → Apart lo hi rs → Apart lo' hi' qs →
     ((x : ℕ) → marksOf rs x ≡ true → marksOf qs x ≡ false) → meet rs qs ≡ false
-disjoint-meet lo hi lo' hi' [] qs h k d = refl
-disjoint-meet lo hi lo' hi' (r ∷ rs) qs h k d =
-    by (overlaps (r .base) (r .limit) qs)
-    (λ e. let w = overlaps-one (r .base) (r .limit) lo' hi' qs (h .1) k e in
-    clash (w .3) (d (w .0) (rw (in-yes (r .base) (r .limit) (w .0) (w .1) (w .2)))))
-    (λ e. rw e (disjoint-meet (suc (r .limit)) hi lo' hi' rs qs (h .3) k (λ x y. d x (later (within (r .base) (r .limit) x) (marksOf rs x) y))))
+disjoint-meet lo hi lo' hi' rs qs h k d =
+    by (meet rs qs) (λ m. let w = meet-common lo hi lo' hi' rs qs h k m in clash (w .2) (d (w .0) (w .1))) (λ m. m)
 
 -- WHAT IS READ OF A PAIR IS READ OF EACH LAND
 no-set : {P : Type 0} (n : ℕ) (s : Sets) → fault n ≡ holding s → P

@@ -9,16 +9,19 @@ use Prim.Native.Nat.{ℕ, _+_, _≤_}
 use native.Mathlib.Omega.{arith}
 use borrow.Author.Tests.{ne-eqb}
 use Rattle.units.proofs.Tests.{by, clash}
-use Rattle.model.specs.Marks.{Range, Marks}
+use Rattle.model.specs.Marks.{Range, rng, Marks}
 use Rattle.model.specs.Lists.{marksOf, total}
 use Rattle.model.specs.Calls as land
-use Rattle.model.specs.Calls.{Arena, Call, Step}
+use Rattle.model.specs.Calls.{Arena, Call, Outcome, Step}
+use Rattle.model.specs.Reference.{reference}
 use Rattle.model.specs.Steps.{list-ops, step}
 use Rattle.model.specs.Lands.{Fine}
 use Rattle.model.specs.Demand.{made, touch, or-as-before}
 use Rattle.model.specs.Flushing.{unlimited}
 use Rattle.model.proofs.Refusing.{step-kept}
+use Rattle.model.proofs.Bytes.{range-path}
 use Rattle.model.proofs.Serving.{reference-answer}
+use Rattle.model.proofs.Numbering.{reference-refusal}
 use Rattle.model.proofs.DemandMet.{reference-up, fine-next}
 use Rattle.pair_model.specs.Pairs.{Both, both, PairCall, as-call, Sets, keep, in-list, in-block, list-step, block-step}
 use Rattle.pair_model.specs.PairReference.{either, pair-stays, for-list, for-block, list-ledger, block-ledger}
@@ -38,11 +41,16 @@ sum s = total (s .list) + total (s .block)
 abbrev pub Fair : ℕ → Type 0
 Fair n = (n ≢ 3) × (n ≢ 5) × (n ≢ 6)
 
+-- every refusal returns ranges (0, 0)
+abbrev pub Empty : Outcome → Type 0
+Empty o = (o .found ≡ rng 0 0) × (o .old ≡ rng 0 0)
+
 pub record Turn (a : Arena) (c : PairCall) (s : Sets) (m : Step (Both Marks Marks)) (t : Step Sets) : Type 0 where
   pub same : m ≡ pair-lift t
   pub fine : PairFine a (t .next)
   pub kept : t .out .answer ≢ 0 → t .next ≡ s
   pub fair : Fair (t .out .answer)
+  pub empty : t .out .answer ≢ 0 → Empty (t .out)
   pub touches : (x : ℕ) → either (pair-up (t .next)) x ≡ or-as-before (touch (made (as-call c) (t .out)) x) (either (pair-up s) x)
   pub sums : sum (t .next) + taken-out c (t .out) ≡ sum s + put-in c (t .out)
 
@@ -72,6 +80,14 @@ beside-list none p q h = refl
 step-answer : (a : Arena) (c : Call) (rs : List Range) → Fine a rs → step list-ops a c rs .out .answer ≤ 4
 step-answer a c rs f = subst (λ (t : Step Marks). t .out .answer ≤ 4) (reference-up a c rs f) (reference-answer a c (marksOf rs))
 
+step-empty : (a : Arena) (c : Call) (rs : List Range) → Fine a rs → step list-ops a c rs .out .answer ≢ 0 → Empty (step list-ops a c rs .out)
+step-empty a c rs f =
+    subst (λ (t : Step Marks). t .out .answer ≢ 0 → Empty (t .out)) (reference-up a c rs f)
+    (λ z. let k = reference-refusal a c (marksOf rs) z in (
+      range-path (reference a c (marksOf rs) .out .found) 0 0 (k .found-base) (k .found-limit),
+      range-path (reference a c (marksOf rs) .out .old) 0 0 (k .old-base) (k .old-limit),
+    ))
+
 fair-4 : (n : ℕ) → n ≤ 4 → n ≢ 3 → Fair n
 fair-4 n k z = (z, λ e. omega arith, λ e. omega arith)
 
@@ -82,6 +98,7 @@ module _ (a : Arena) (c : PairCall) (s : Sets) (f : PairFine a s) where
     fine = f;
     kept = λ y. refl;
     fair = k;
+    empty = λ y. (refl, refl);
     touches = λ x. rw (ne-eqb n 0 z);
     sums = rw (ne-eqb n 0 z);
   }
@@ -105,6 +122,7 @@ module _ (a : Arena) (c : PairCall) (s : Sets) (f : PairFine a s) where
       };
       kept = λ z. ap (λ (rs : List Range). both rs (s .block)) (step-kept list-ops (unlimited a) (as-call c) (s .list) z);
       fair = fair-4 (t .out .answer) (step-answer (unlimited a) (as-call c) (s .list) (f .list-fine)) (unlimited-not-3 a (as-call c) (s .list));
+      empty = step-empty (unlimited a) (as-call c) (s .list) (f .list-fine);
       touches = λ x.
           ap (λ (p : Bool). p || marksOf (s .block) x) (step-touch (unlimited a) (s .list) (f .list-fine) (as-call c) x)
           ∙ beside-block (touch (made (as-call c) (t .out)) x) (marksOf (s .list) x) (marksOf (s .block) x)
@@ -132,6 +150,7 @@ module _ (a : Arena) (c : PairCall) (s : Sets) (f : PairFine a s) where
       };
       kept = λ z. ap (λ (qs : List Range). both (s .list) qs) (step-kept list-ops a (as-call c) (s .block) z);
       fair = fair-4 (u .out .answer) (step-answer a (as-call c) (s .block) (f .block-fine)) no-3;
+      empty = step-empty a (as-call c) (s .block) (f .block-fine);
       touches = λ x.
           ap (λ (p : Bool). marksOf (s .list) x || p) (step-touch a (s .block) (f .block-fine) (as-call c) x)
           ∙ beside-list (touch (made (as-call c) (u .out)) x) (marksOf (s .list) x) (marksOf (s .block) x)

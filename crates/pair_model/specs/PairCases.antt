@@ -78,6 +78,7 @@ pair-cases =
     -- a run across both lands is not found, and a delete in it is answered 7 where every byte is free
     ∷ record { before = across; call = find Which.First 24 Mode.Low; out = refused 2; after = across }
     ∷ record { before = across; call = delete 4104 4120; out = refused 7; after = across }
+    ∷ record { before = across; call = delete 4096 4120; out = refused 7; after = across }
     ∷ record { before = across; call = delete 4104 4128; out = refused 1; after = across }
     ∷ record { before = across; call = delete 4104 4112; out = gives 4096 4112; after = both (only 4112 4120) (only 4096 4104) }
     -- first the lower, last the higher, largest the longer
