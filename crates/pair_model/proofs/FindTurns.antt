@@ -50,13 +50,13 @@ bases-differ a s f r q m k z =
 
 -- which of two finds is taken, by their outcomes
 module _ (w : Which) (t u : Step Marks) (m : Both Marks Marks) where
-  takes-block : t .out .answer ≡ 2 → better-find w t u m ≡ for-block u m
+  pub takes-block : t .out .answer ≡ 2 → better-find w t u m ≡ for-block u m
   takes-block e = rw e
 
-  takes-list : t .out .answer ≡ 0 → u .out .answer ≡ 2 → better-find w t u m ≡ for-list t m
+  pub takes-list : t .out .answer ≡ 0 → u .out .answer ≡ 2 → better-find w t u m ≡ for-list t m
   takes-list e f = rw (e, f)
 
-  takes-better : (r q : Range) → t .out .answer ≡ 0 → u .out .answer ≡ 0 → t .out .old ≡ r → u .out .old ≡ q →
+  pub takes-better : (r q : Range) → t .out .answer ≡ 0 → u .out .answer ≡ 0 → t .out .old ≡ r → u .out .old ≡ q →
       better-find w t u m ≡ cond (block-wins w r q) (for-block u m) (for-list t m)
   takes-better r q e f i j = rw (e, f, i, j)
 
@@ -84,12 +84,12 @@ module _ (a : Arena) (w : Which) (n : ℕ) (mode : Mode) (g : good-size a w n �
   pub block-gives : (o : Option Range) → choose w (find-size a n) (s .block) ≡ o → block-step a c (s .block) ≡ gives a w n mode (s .block) o
   block-gives o e = find-gives a (s .block) (f .block-fine) w n mode g o e
 
-  list-out : (o : Option Range) → choose w (find-size a n) (s .list) ≡ o → L .out ≡ gives (unlimited a) w n mode (s .list) o .out
+  pub list-out : (o : Option Range) → choose w (find-size a n) (s .list) ≡ o → L .out ≡ gives (unlimited a) w n mode (s .list) o .out
   list-out o e =
       ap (λ (t : Step Marks). t .out) (reference-up (unlimited a) c (s .list) (f .list-fine))
       ∙ ap (λ (t : Step (List Range)). t .out) (list-gives o e)
 
-  block-out : (o : Option Range) → choose w (find-size a n) (s .block) ≡ o → B .out ≡ gives a w n mode (s .block) o .out
+  pub block-out : (o : Option Range) → choose w (find-size a n) (s .block) ≡ o → B .out ≡ gives a w n mode (s .block) o .out
   block-out o e =
       ap (λ (t : Step Marks). t .out) (reference-up a c (s .block) (f .block-fine))
       ∙ ap (λ (t : Step (List Range)). t .out) (block-gives o e)
