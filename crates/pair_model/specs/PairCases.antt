@@ -90,5 +90,6 @@ pair-cases =
     ∷ record { before = both (only 4112 4120) (only 4096 4104); call = find Which.Largest 8 Mode.Entire; out = accepted (rng 4096 4104) (rng 4096 4104); after = both (only 4112 4120) [] }
     -- one land has none
     ∷ record { before = both [] (only 4112 4120); call = find Which.First 8 Mode.None; out = accepted (rng 4112 4120) (rng 4112 4120); after = both [] (only 4112 4120) }
+    ∷ record { before = both (only 4112 4120) []; call = find Which.Last 8 Mode.Entire; out = accepted (rng 4112 4120) (rng 4112 4120); after = both [] [] }
     ∷ record { before = both [] []; call = find Which.Largest 0 Mode.Entire; out = refused 2; after = both [] [] }
     ∷ []
