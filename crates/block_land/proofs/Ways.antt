@@ -66,15 +66,15 @@ module _ (h : BlockLand) (ws : List ℕ) (a : Arena) (ea : a ≡ arenaIn h) (x :
 pub ruleset set-up-ways = (set-up-bad, set-up-good, set-up-long)
 
 -- THE LOOK
+pub look-ready : (h : BlockLand) (ws : List ℕ) (r : SetUp) → r ≡ setUpOf (setUp h ws) → r ≡ SetUp.Good → (a : Arena) → a ≡ arenaIn h → Ready a
+look-ready h ws r e f a ea = rw ea (placed h ws (set-up-true (setUp h ws) r e f) .check)
+
 module _ (h : BlockLand) (ws : List ℕ) (aim : Aim) (r : SetUp) (e : r ≡ setUpOf (setUp h ws)) where
   pub look-bad : r ≡ SetUp.Bad → Look.BadSetUp ≡ lookOf h ws aim
   unfolding lookOf
   look-bad f = rw (set-up-false (setUp h ws) r e f)
 
   module _ (f : r ≡ SetUp.Good) (a : Arena) (ea : a ≡ arenaIn h) where
-    pub look-ready : Ready a
-    look-ready = rw ea (placed h ws (set-up-true (setUp h ws) r e f) .check)
-
     module _ (v : Verdict) (ev : v ≡ surveyOf a ws (h .ranges) (h .bytes) aim) where
       seen : v ≡ cond (sound h ws) (Verdict.Sound (entryOf aim (tableOf h ws))) Verdict.Damaged
       unfolding surveyOf sound

@@ -4,7 +4,6 @@ use crate::Found;
 use crate::Look;
 use block_edits::Edited;
 use block_words::Entry;
-use units::Aim;
 use units::Mode;
 use units::Range;
 use units::Size;
@@ -69,7 +68,7 @@ impl BlockLand {
         ensures { λ r. ⌜ (r ≡ foundOf (found self (now (nodes .entry)) which (size .0) mode)) × (now (nodes .exit) ≡ found self (now (nodes .entry)) which (size .0) mode .words) ⌝ }
     {
         let wanted = self.arena().find_size(size);
-        match self.look(nodes, Aim::Find(which, wanted)) {
+        match self.look_find(nodes, which, wanted) {
             Look::BadSetUp => none_found(self, 5),
             Look::Damaged => none_found(self, 6),
             Look::Sound(e) => {

@@ -74,3 +74,10 @@ module _ (a : Arena) (ws : List ℕ) (n : ℕ) (ready : Ready a) (aim : Aim) (st
 
   pub first-find : (w : Which) (m : Size) → aim ≡ Aim.Find w m → x .0 ≡ 0 → y .0 ≡ 0 → z ≡ m → SoughtBy a ws n (entryOf aim) q
   first-find w m e ex ey ez = goal-sought (goal-find x y z aim (a .limit .0) w m e ex ey ez)
+
+-- the way out of `found` for the first range
+pub found-first : (a : Arena) (ws : List ℕ) (n : ℕ) → Ready a → (w : Which) (m : Size) → w ≡ Which.First → (x y : Addr) → x .0 ≡ 0 → y .0 ≡ 0 →
+    (q : Sought) → SoughtBy a ws n (sought (record { reach = x; from = y; size = m }) 0) q → SoughtBy a ws n (entryOf (Aim.Find w m)) q
+found-first a ws n ready w m e x y ex ey q i =
+    let stay : keepsFirst (Aim.Find w m) ≡ true = rw e in
+    first-find a ws n ready (Aim.Find w m) stay x y m q i w m refl ex ey refl

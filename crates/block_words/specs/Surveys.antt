@@ -1,9 +1,10 @@
 -- What the scan over the whole table keeps and finds: contracts of inner functions. Assumes nothing.
-use Prim.Native.Nat.{ℕ, _+_}
-use mathlib.Core.Bool.{true, false, cond}
+use Prim.Native.Nat.{ℕ, _+_, _*_}
+use mathlib.Core.Bool.{Bool, true, false, cond, _&&_}
 use mathlib.Core.List.{List, [], _∷_}
 use mathlib.Core.Path.{_≡_}
-use lib.ListN.{length}
+use lib.Dec.{leb}
+use lib.ListN.{length, drop}
 use Rattle.units.specs.Aims.{none-range, takes, fits}
 use Rattle.units.specs.declared.Range.{Range}
 use Rattle.units.specs.declared.Size.{Size}
@@ -12,7 +13,7 @@ use Rattle.units.specs.declared.aims.Goal.{Goal}
 use Rattle.units.specs.declared.rules.Arena.{Arena}
 use Rattle.model.specs.Marks as marks
 use Rattle.model.specs.Marks.{struct}
-use Rattle.block_words.specs.Words.{pairs, canonical, soundTable}
+use Rattle.block_words.specs.Words.{capacity, pairs, clear, canonical, soundTable}
 use Rattle.block_words.specs.Tallies.{behind, startOf, judged, Standing}
 use Rattle.block_words.specs.declared.Entry.{Entry}
 use Rattle.block_words.specs.declared.Verdict.{Verdict}
@@ -46,6 +47,19 @@ pub record Come (a : Arena) (ws : List ℕ) (n : ℕ) (f : List marks.Range → 
 abbrev pub SoughtBy : Arena → List ℕ → ℕ → (List marks.Range → Entry) → Sought → Type 0
 SoughtBy a ws n f Sought.Broken = (bytes : Size) → judged a bytes (startOf a) (pairs ws n) ≡ false
 SoughtBy a ws n f (Sought.At e t) = Come a ws n f e t
+
+-- There is room for n ranges, and every pair word behind them is 0.
+abbrev pub tidy : List ℕ → ℕ → Bool
+tidy ws n = leb n (capacity ws) && clear (drop (2 * n) ws)
+
+-- Where a scan stands behind what it sought; and what is found by going on from there.
+abbrev pub Stood : List ℕ → ℕ → Sought → Type 0
+Stood ws n Sought.Broken = Unit {0}
+Stood ws n (Sought.At e t) = Standing ws n t
+
+abbrev pub verdictBy : Arena → List ℕ → ℕ → Size → Sought → Verdict
+verdictBy a ws n bytes Sought.Broken = Verdict.Damaged
+verdictBy a ws n bytes (Sought.At e t) = cond (judged a bytes t (behind ws n (t .next))) (Verdict.Sound e) Verdict.Damaged
 
 -- What a scan of the whole table finds, where the handle has n ranges and this many bytes.
 unfoldable pub surveyOf : Arena → List ℕ → ℕ → Size → Aim → Verdict

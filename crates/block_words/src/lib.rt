@@ -11,12 +11,14 @@ use units::Aim;
 use units::Arena;
 use units::Range;
 use units::Size;
+use units::Which;
 ghost use mathlib.Core.Path.{_≡_};
 ghost use Prim.Native.Nat.{_+_, _*_, _/_, _≤_, _<_};
 ghost use lib.ListN.{length, drop};
+ghost use Rattle.units.specs.declared.aims.Aim.{Aim};
 ghost use Rattle.block_words.specs.Words.{clear};
 ghost use Rattle.block_words.specs.Tallies.{pairAt, pairBits, fourBits, Ready};
-ghost use Rattle.block_words.specs.Surveys.{surveyOf};
+ghost use Rattle.block_words.specs.Surveys.{tidy, Stood, verdictBy, surveyOf};
 
 // A range of the table and its number. Where there is none: (0, 0), and the number of ranges.
 pub struct Entry {
@@ -95,21 +97,24 @@ fn is_zero(words: &[u64], n: usize) -> bool
     is_clear(words, i)
 }
 
-// The one scan over the whole table: of the zeros behind as many pairs as the handle says, and of these, up to the one
-// kept and on to the last.
-pub fn survey(arena: Arena, words: &[u64], ranges: u64, bytes: Size, aim: Aim) -> Verdict
-    requires { ⌜ Ready arena ⌝ }
-    ensures { λ r. ⌜ r ≡ surveyOf arena (now (words .entry)) ranges bytes aim ⌝ }
+// Whether there is room for so many ranges, and every pair word behind them is 0.
+fn is_tidy(words: &[u64], ranges: u64) -> bool
+    ensures { λ r. ⌜ r ≡ tidy (now (words .entry)) ranges ⌝ }
 {
     let m = words.len() / 2;
     if (m as u64) < ranges {
-        return Verdict::Damaged;
+        return false;
     }
-    let n = ranges as usize;
-    if !is_zero(words, n) {
-        return Verdict::Damaged;
-    }
-    let Sought::At(e, t) = seeks::aimed(arena, words, n, aim) else {
+    is_zero(words, ranges as usize)
+}
+
+// What is found of the first n pairs, by the scan on from what was sought.
+fn conclude(arena: Arena, words: &[u64], n: usize, bytes: Size, sought: Sought) -> Verdict
+    requires { ⌜ Ready arena ⌝ }
+    requires { ⌜ Stood (now words) n sought ⌝ }
+    ensures { λ r. ⌜ r ≡ verdictBy arena (now (words .entry)) n bytes sought ⌝ }
+{
+    let Sought::At(e, t) = sought else {
         return Verdict::Damaged;
     };
     let entry = e;
@@ -118,4 +123,42 @@ pub fn survey(arena: Arena, words: &[u64], ranges: u64, bytes: Size, aim: Aim) -
         return Verdict::Sound(entry);
     }
     Verdict::Damaged
+}
+
+// The one scan over the whole table: of the zeros behind as many pairs as the handle says, and of these, up to the one
+// kept and on to the last.
+pub fn survey(arena: Arena, words: &[u64], ranges: u64, bytes: Size, aim: Aim) -> Verdict
+    requires { ⌜ Ready arena ⌝ }
+    ensures { λ r. ⌜ r ≡ surveyOf arena (now (words .entry)) ranges bytes aim ⌝ }
+{
+    if !is_tidy(words, ranges) {
+        return Verdict::Damaged;
+    }
+    let n = ranges as usize;
+    conclude(arena, words, n, bytes, seeks::aimed(arena, words, n, aim))
+}
+
+// The same for a find: no other aim is asked for.
+pub fn survey_find(
+    arena: Arena,
+    words: &[u64],
+    ranges: u64,
+    bytes: Size,
+    which: Which,
+    size: Size,
+) -> Verdict
+    requires { ⌜ Ready arena ⌝ }
+    ensures { λ r. ⌜ r ≡ surveyOf arena (now (words .entry)) ranges bytes (Aim.Find which size) ⌝ }
+{
+    if !is_tidy(words, ranges) {
+        return Verdict::Damaged;
+    }
+    let n = ranges as usize;
+    conclude(
+        arena,
+        words,
+        n,
+        bytes,
+        seeks::found(arena, words, n, which, size),
+    )
 }

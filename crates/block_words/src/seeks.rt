@@ -8,11 +8,13 @@ use units::Arena;
 use units::Goal;
 use units::Range;
 use units::Size;
+use units::Which;
 ghost use mathlib.Core.Path.{_≡_};
 ghost use mathlib.Core.Bool.{true};
 ghost use Prim.Native.Nat.{_/_, _≤_};
 ghost use lib.ListN.{length};
 ghost use Rattle.units.specs.Aims.{keepsFirst};
+ghost use Rattle.units.specs.declared.aims.Aim.{Aim};
 ghost use Rattle.block_words.specs.Tallies.{Ready};
 ghost use Rattle.block_words.specs.Surveys.{sought, entryOf, SoughtBy};
 
@@ -101,4 +103,18 @@ pub(crate) fn aimed(arena: Arena, words: &[u64], n: usize, aim: Aim) -> Sought
         return first(arena, words, n, aim);
     }
     weigh(arena, words, n, aim)
+}
+
+// The scan up to the range that a find chooses.
+pub(crate) fn found(arena: Arena, words: &[u64], n: usize, which: Which, size: Size) -> Sought
+    requires { ⌜ Ready arena ⌝ }
+    requires { ⌜ n ≤ length (now words) / 2 ⌝ }
+    ensures { λ r. ⌜ SoughtBy arena (now (words .entry)) n (entryOf (Aim.Find which size)) r ⌝ }
+{
+    if let Which::First = which {
+        let reach = Addr::new(0);
+        let from = Addr::new(0);
+        return seek(arena, words, n, Goal { reach, from, size });
+    }
+    weigh(arena, words, n, Aim::Find(which, size))
 }

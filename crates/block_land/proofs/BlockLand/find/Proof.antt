@@ -12,8 +12,8 @@ arena-requires c κs = search needs
 find-size-requires : tie.Need-find-size-requires
 find-size-requires c κs = search needs
 
-look-requires : tie.Need-look-requires
-look-requires c κs = search needs
+look-find-requires : tie.Need-look-find-requires
+look-find-requires c κs = search needs
 
 enum-told : tie.Need-enum-told
 enum-told c = search needs
@@ -40,7 +40,7 @@ returns : tie.Need-returns
 returns c =
     let a = c .before .before .before .before .before .before .before .before .args in
     refuse-find _ _ _ 5
-    (answers-5 _ _ _ _ (c .before .before .before .look .ensures) _ _ (is-find _ _ (a .which) (a .size .0) (a .mode)) (c .before .enum-told .given .1)) _
+    (answers-5 _ _ _ _ (c .before .before .before .look-find .ensures) _ _ (is-find _ _ (a .which) (a .size .0) (a .mode)) (c .before .enum-told .given .1)) _
     (c .none-found .ensures) _ refl
 
 same-length-2 : tie.Need-same-length-2
@@ -50,7 +50,7 @@ returns-2 : tie.Need-returns-2
 returns-2 c =
     let a = c .before .before .before .before .before .before .before .before .args in
     refuse-find _ _ _ 6
-    (answers-6 _ _ _ _ (c .before .before .before .look .ensures) _ _ (is-find _ _ (a .which) (a .size .0) (a .mode)) (c .before .enum-told2 .given .1)) _
+    (answers-6 _ _ _ _ (c .before .before .before .look-find .ensures) _ _ (is-find _ _ (a .which) (a .size .0) (a .mode)) (c .before .enum-told2 .given .1)) _
     (c .none-found2 .ensures) _ refl
 
 same-length-3 : tie.Need-same-length-3
@@ -65,7 +65,7 @@ find-spec =
     (tie.spec
     arena-requires
     find-size-requires
-    look-requires
+    look-find-requires
     enum-told
     none-found-requires
     enum-told-2

@@ -1,0 +1,50 @@
+-- `BlockLand::look_find` meets its contract: the set-up, then the one scan. Assumes nothing.
+use Rattle.block_land.proofs.Ways.{look-ways}
+use borrow.Author.Needs.{needs}
+use Rattle.block_land.proofs.BlockLand.look_find.Statement.{statement}
+use Rattle.block_land.proofs.BlockLand.look_find.Tie as tie
+
+set-up-requires : tie.Need-set-up-requires
+set-up-requires c κs = search needs
+
+enum-told : tie.Need-enum-told
+enum-told c = search needs
+
+enum-told-2 : tie.Need-enum-told-2
+enum-told-2 c = search needs
+
+returns : tie.Need-returns
+returns c = search look-ways
+
+arena-requires : tie.Need-arena-requires
+arena-requires c κs = search needs
+
+survey-find-requires : tie.Need-survey-find-requires
+survey-find-requires c κs = search look-ways
+
+enum-told-3 : tie.Need-enum-told-3
+enum-told-3 c = search needs
+
+enum-known-entry : tie.Need-enum-known-entry
+enum-known-entry c = search needs
+
+returns-2 : tie.Need-returns-2
+returns-2 c = search look-ways
+
+returns-3 : tie.Need-returns-3
+returns-3 c = search look-ways
+
+pub look-find-spec : {M : Type 1} → statement M
+look-find-spec =
+    tie.close
+    (tie.spec
+    set-up-requires
+    enum-told
+    enum-told-2
+    returns
+    arena-requires
+    survey-find-requires
+    enum-told-3
+    enum-known-entry
+    returns-2
+    returns-3)
