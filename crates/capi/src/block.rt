@@ -51,7 +51,7 @@ fn mode_answer(look: Look) -> u64
 }
 
 // The refusal of a find whose mode is not known.
-fn refuse(land: BlockLand, nodes: &[u64]) -> Found
+pub fn refuse(land: BlockLand, nodes: &[u64]) -> Found
     ensures { λ r. ⌜ r ≡ foundNone land (unknownMode (setUp land (now (nodes .entry))) (sound land (now (nodes .entry)))) ⌝ }
 {
     Found {
@@ -73,36 +73,6 @@ pub extern "C" fn lg_block_find_first(
 {
     match modes::mode_of(mode) {
         Given::Mode(mode) => land.find_first(nodes, Size::new(size), mode),
-        Given::Unknown => refuse(land, nodes),
-    }
-}
-
-#[no_mangle]
-pub extern "C" fn lg_block_find_last(
-    land: BlockLand,
-    nodes: &mut [u64],
-    size: u64,
-    mode: u64,
-) -> Found
-    ensures { λ r. ⌜ (r ≡ foundOf (foundBy land (now (nodes .entry)) Which.Last size mode)) × (now (nodes .exit) ≡ foundBy land (now (nodes .entry)) Which.Last size mode .words) ⌝ }
-{
-    match modes::mode_of(mode) {
-        Given::Mode(mode) => land.find_last(nodes, Size::new(size), mode),
-        Given::Unknown => refuse(land, nodes),
-    }
-}
-
-#[no_mangle]
-pub extern "C" fn lg_block_find_largest(
-    land: BlockLand,
-    nodes: &mut [u64],
-    size: u64,
-    mode: u64,
-) -> Found
-    ensures { λ r. ⌜ (r ≡ foundOf (foundBy land (now (nodes .entry)) Which.Largest size mode)) × (now (nodes .exit) ≡ foundBy land (now (nodes .entry)) Which.Largest size mode .words) ⌝ }
-{
-    match modes::mode_of(mode) {
-        Given::Mode(mode) => land.find_largest(nodes, Size::new(size), mode),
         Given::Unknown => refuse(land, nodes),
     }
 }

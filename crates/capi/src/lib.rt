@@ -1,9 +1,9 @@
-// The calls for a host in C: by value, one for each call of a land, and the flush.
+// The calls for a host in C: by value, one for each call of a land but the finds of the last and the largest, and the flush.
 //
 // Every function here is proved to equal the call that it makes, and the crate assumes nothing of its own.
 pub mod block;
 pub mod list;
-mod modes;
+pub mod modes;
 
 use block_land::BlockLand;
 use flush::Flushed;

@@ -51,7 +51,7 @@ fn mode_answer(look: Look) -> u64
 }
 
 // The refusal of a find whose mode is not known.
-fn refuse(land: ListLand, words: &[u64]) -> Found
+pub fn refuse(land: ListLand, words: &[u64]) -> Found
     ensures { λ r. ⌜ r ≡ foundNone land (unknownMode (setUp land (now (words .entry))) (sound land (now (words .entry)))) ⌝ }
 {
     Found {
@@ -73,36 +73,6 @@ pub extern "C" fn lg_list_find_first(
 {
     match modes::mode_of(mode) {
         Given::Mode(mode) => land.find_first(words, Size::new(size), mode),
-        Given::Unknown => refuse(land, words),
-    }
-}
-
-#[no_mangle]
-pub extern "C" fn lg_list_find_last(
-    land: ListLand,
-    words: &mut [u64],
-    size: u64,
-    mode: u64,
-) -> Found
-    ensures { λ r. ⌜ (r ≡ foundOf (foundBy land (now (words .entry)) Which.Last size mode)) × (now (words .exit) ≡ foundBy land (now (words .entry)) Which.Last size mode .words) ⌝ }
-{
-    match modes::mode_of(mode) {
-        Given::Mode(mode) => land.find_last(words, Size::new(size), mode),
-        Given::Unknown => refuse(land, words),
-    }
-}
-
-#[no_mangle]
-pub extern "C" fn lg_list_find_largest(
-    land: ListLand,
-    words: &mut [u64],
-    size: u64,
-    mode: u64,
-) -> Found
-    ensures { λ r. ⌜ (r ≡ foundOf (foundBy land (now (words .entry)) Which.Largest size mode)) × (now (words .exit) ≡ foundBy land (now (words .entry)) Which.Largest size mode .words) ⌝ }
-{
-    match modes::mode_of(mode) {
-        Given::Mode(mode) => land.find_largest(words, Size::new(size), mode),
         Given::Unknown => refuse(land, words),
     }
 }

@@ -1,9 +1,9 @@
--- `lg_list_find_largest` meets its contract. Assumes nothing.
+-- `lg_list_find_last` meets its contract. Assumes nothing.
 use Rattle.units.specs.declared.Which.{Which}
 use Rattle.capi.proofs.ListRefusing.{found-known, found-unknown}
 use borrow.Author.Needs.{needs}
-use Rattle.capi.proofs.list.lg_list_find_largest.Statement.{statement}
-use Rattle.capi.proofs.list.lg_list_find_largest.Tie as tie
+use Rattle.capi_finds.proofs.list.lg_list_find_last.Statement.{statement}
+use Rattle.capi_finds.proofs.list.lg_list_find_last.Tie as tie
 
 mode-of-requires : tie.Need-mode-of-requires
 mode-of-requires c κs = search needs
@@ -14,8 +14,8 @@ enum-known-mode c = search needs
 new-requires : tie.Need-new-requires
 new-requires c κs = search needs
 
-find-largest-requires : tie.Need-find-largest-requires
-find-largest-requires c κs = search needs
+find-last-requires : tie.Need-find-last-requires
+find-last-requires c κs = search needs
 
 enum-told : tie.Need-enum-told
 enum-told c = search needs
@@ -29,7 +29,7 @@ same-length c = search needs
 returns : tie.Need-returns
 returns c =
     let x = c .before .before .before .before .before .before .before .before .before .before .args in
-    found-known _ _ Which.Largest (x .size) (x .mode) _ (c .before .before .before .before .before .before .before .before .mode-of .ensures) _ (search needs) _ _ (rw (c .before .before .before .new .ensures) at (c .before .before .find-largest .ensures))
+    found-known _ _ Which.Last (x .size) (x .mode) _ (c .before .before .before .before .before .before .before .before .mode-of .ensures) _ (search needs) _ _ (rw (c .before .before .before .new .ensures) at (c .before .before .find-last .ensures))
 
 same-length-2 : tie.Need-same-length-2
 same-length-2 c = search needs
@@ -37,16 +37,16 @@ same-length-2 c = search needs
 returns-2 : tie.Need-returns-2
 returns-2 c =
     let x = c .before .before .before .before .before .before .args in
-    found-unknown (x .land) _ Which.Largest (x .size) (x .mode) _ (c .before .before .before .before .mode-of .ensures) (search needs) _ (c .refuse .ensures)
+    found-unknown (x .land) _ Which.Last (x .size) (x .mode) _ (c .before .before .before .before .mode-of .ensures) (search needs) _ (c .refuse .ensures)
 
-pub lg-list-find-largest-spec : {M : Type 1} → statement M
-lg-list-find-largest-spec =
+pub lg-list-find-last-spec : {M : Type 1} → statement M
+lg-list-find-last-spec =
     tie.close
     (tie.spec
     mode-of-requires
     enum-known-mode
     new-requires
-    find-largest-requires
+    find-last-requires
     enum-told
     refuse-requires
     same-length

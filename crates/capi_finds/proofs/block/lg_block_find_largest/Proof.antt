@@ -1,9 +1,9 @@
 -- `lg_block_find_largest` meets its contract. Assumes nothing.
 use Rattle.units.specs.declared.Which.{Which}
 use Rattle.capi.proofs.BlockRefusing.{found-known, found-unknown}
 use borrow.Author.Needs.{needs}
-use Rattle.capi.proofs.block.lg_block_find_largest.Statement.{statement}
-use Rattle.capi.proofs.block.lg_block_find_largest.Tie as tie
+use Rattle.capi_finds.proofs.block.lg_block_find_largest.Statement.{statement}
+use Rattle.capi_finds.proofs.block.lg_block_find_largest.Tie as tie
 
 mode-of-requires : tie.Need-mode-of-requires
 mode-of-requires c κs = search needs

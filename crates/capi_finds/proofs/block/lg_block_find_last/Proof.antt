@@ -1,9 +1,9 @@
--- `lg_list_find_last` meets its contract. Assumes nothing.
+-- `lg_block_find_last` meets its contract. Assumes nothing.
 use Rattle.units.specs.declared.Which.{Which}
-use Rattle.capi.proofs.ListRefusing.{found-known, found-unknown}
+use Rattle.capi.proofs.BlockRefusing.{found-known, found-unknown}
 use borrow.Author.Needs.{needs}
-use Rattle.capi.proofs.list.lg_list_find_last.Statement.{statement}
-use Rattle.capi.proofs.list.lg_list_find_last.Tie as tie
+use Rattle.capi_finds.proofs.block.lg_block_find_last.Statement.{statement}
+use Rattle.capi_finds.proofs.block.lg_block_find_last.Tie as tie
 
 mode-of-requires : tie.Need-mode-of-requires
 mode-of-requires c κs = search needs
@@ -39,8 +39,8 @@ returns-2 c =
     let x = c .before .before .before .before .before .before .args in
     found-unknown (x .land) _ Which.Last (x .size) (x .mode) _ (c .before .before .before .before .mode-of .ensures) (search needs) _ (c .refuse .ensures)
 
-pub lg-list-find-last-spec : {M : Type 1} → statement M
-lg-list-find-last-spec =
+pub lg-block-find-last-spec : {M : Type 1} → statement M
+lg-block-find-last-spec =
     tie.close
     (tie.spec
     mode-of-requires
