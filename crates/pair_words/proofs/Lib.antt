@@ -1,0 +1,4 @@
+pub mod Meets
+pub mod Walking
+pub mod Merging
+pub mod Sharing

@@ -1,0 +1,112 @@
+// The words of a list land and of a block land of one arena, read together.
+//
+// Every function here is proved, and the crate assumes nothing of its own. These are inner functions: a `requires`
+// says what the calls of a pair have checked before.
+use list_words::Met;
+use units::Addr;
+use units::Arena;
+use units::Range;
+use units::Size;
+ghost use mathlib.Core.Bool.{cond};
+ghost use mathlib.Core.Path.{_≡_};
+ghost use lib.Dec.{leb};
+ghost use Rattle.list_words.specs.Surveys.{walkOf};
+ghost use Rattle.block_words.specs.Words.{pairs};
+ghost use Rattle.transfers.specs.Transfers.{Going};
+ghost use Rattle.pair_model.specs.Pairs.{inside};
+ghost use Rattle.pair_model.specs.PairLayouts.{meet};
+ghost use Rattle.pair_words.specs.Shares.{share, Listed, Tabled};
+
+// Whether some range of a sound list overlaps one of a sound table. Both are gone through once, in address order.
+pub fn overlap(arena: Arena, words: &[u64], head: Addr, nodes: &[u64], count: u64) -> bool
+    requires { ⌜ Going arena (now words) (head .0) (now nodes) count ⌝ }
+    ensures { λ r. ⌜ r ≡ meet (walkOf arena (now (words .entry)) (head .0) .met) (pairs (now (nodes .entry)) count) ⌝ }
+{
+    let n = count as usize;
+    let low = arena.base;
+    let mut at = head;
+    let mut i: usize = 0;
+    while i < n {
+        if at.is_zero() {
+            return false;
+        }
+        let Met::Found(end, next) = list_words::step(arena, words, low, at) else {
+            return false;
+        };
+        let pair = block_words::pair_at(nodes, i);
+        if pair.limit.le(at) {
+            i += 1;
+        } else {
+            if !end.le(pair.base) {
+                return true;
+            }
+            at = next;
+        }
+    }
+    false
+}
+
+// The higher and the lower of two addresses.
+fn higher(x: Addr, y: Addr) -> Addr
+    ensures { λ r. ⌜ r .0 ≡ cond (leb (x .0) (y .0)) (y .0) (x .0) ⌝ }
+{
+    if x.le(y) {
+        return y;
+    }
+    x
+}
+
+fn lower(x: Addr, y: Addr) -> Addr
+    ensures { λ r. ⌜ r .0 ≡ cond (leb (x .0) (y .0)) (x .0) (y .0) ⌝ }
+{
+    if x.le(y) {
+        return x;
+    }
+    y
+}
+
+// The bytes of y that are in a range.
+fn common(y: Range, here: Range) -> Size
+    ensures { λ r. ⌜ r .0 ≡ share y here ⌝ }
+{
+    let from = higher(y.base, here.base);
+    let upto = lower(y.limit, here.limit);
+    if upto.le(from) {
+        return Size::new(0);
+    }
+    from.size_to(upto)
+}
+
+// The bytes of a range that are in the ranges of a sound list.
+pub fn list_share(arena: Arena, words: &[u64], head: Addr, range: Range) -> Size
+    requires { ⌜ Listed arena (now words) (head .0) ⌝ }
+    ensures { λ r. ⌜ r .0 ≡ inside (range .base .0) (range .limit .0) (walkOf arena (now (words .entry)) (head .0) .met) ⌝ }
+{
+    let low = arena.base;
+    let mut at = head;
+    let mut sum = Size::new(0);
+    while !at.is_zero() {
+        let Met::Found(end, next) = list_words::step(arena, words, low, at) else {
+            return sum;
+        };
+        sum = sum.plus(common(range, Range::new(at, end)));
+        at = next;
+    }
+    sum
+}
+
+// The bytes of a range that are in the ranges of a sound table.
+pub fn table_share(nodes: &[u64], count: u64, range: Range) -> Size
+    requires { ⌜ Tabled (now nodes) count ⌝ }
+    ensures { λ r. ⌜ r .0 ≡ inside (range .base .0) (range .limit .0) (pairs (now (nodes .entry)) count) ⌝ }
+{
+    let n = count as usize;
+    let mut i: usize = 0;
+    let mut sum = Size::new(0);
+    while i < n {
+        let here = block_words::pair_at(nodes, i);
+        i += 1;
+        sum = sum.plus(common(range, here));
+    }
+    sum
+}
