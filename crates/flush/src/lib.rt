@@ -45,7 +45,7 @@ fn refused(list: ListLand, block: BlockLand, answer: u64) -> Flushed
 }
 
 // Whether base, limit and alignment of the two lands are the same.
-fn same_arena(list: ListLand, block: BlockLand) -> bool
+pub fn same_arena(list: ListLand, block: BlockLand) -> bool
     ensures { λ r. ⌜ r ≡ sameArena list block ⌝ }
 {
     if !list.base.same(block.base) {

@@ -19,7 +19,7 @@ use Rattle.list_land.specs.Demand.{ListDemand3, HostMayWrite}
 use Rattle.list_land.proofs.Sound.{placed, fine}
 use Rattle.list_land.proofs.LayoutLaws.{reads, read-laid, list-laws}
 
-opened-good : (b l a : ℕ) (ws : List ℕ) → openedOf b l a ws .answer ≡ 0 → (setUp (newLand b l a) ws ≡ true) × (openedOf b l a ws .land ≡ newLand b l a)
+pub opened-good : (b l a : ℕ) (ws : List ℕ) → openedOf b l a ws .answer ≡ 0 → (setUp (newLand b l a) ws ≡ true) × (openedOf b l a ws .land ≡ newLand b l a)
 unfolding openedOf
 opened-good b l a ws e =
     by (setUp (newLand b l a) ws)

@@ -1,0 +1,46 @@
+-- Contracts of the inner functions that every call of a pair uses. Assumes nothing.
+use Prim.Native.Nat.{ℕ}
+use mathlib.Core.Bool.{Bool, true, not, cond, _&&_}
+use mathlib.Core.List.{List}
+use mathlib.Core.Path.{_≡_}
+use Rattle.units.specs.declared.aims.Aim.{Aim}
+use Rattle.list_words.specs.Surveys.{kept-of}
+use Rattle.list_words.specs.declared.Spot.{Spot}
+use Rattle.list_land.specs.Layout as list
+use Rattle.block_words.specs.Surveys.{entryOf}
+use Rattle.block_words.specs.declared.Entry.{Entry}
+use Rattle.block_land.specs.Layout as block
+use Rattle.flush.specs.Flush.{sameArena}
+use Rattle.pair_model.specs.PairLayouts.{meet}
+use Rattle.pair.specs.declared.Pair.{Pair}
+use Rattle.pair.specs.declared.PairCheck.{PairCheck}
+
+module _ (p : Pair) (ws vs : List ℕ) where
+  -- The set-up of both lands is good, and their arenas do not differ.
+  abbrev pub setUp : Bool
+  setUp = list.setUp (p .list) ws && (block.setUp (p .block) vs && sameArena (p .list) (p .block))
+
+  -- Both lands are sound, and no byte is in both.
+  abbrev pub sound : Bool
+  sound =
+      list.sound (p .list) ws && (block.sound (p .block) vs && not (meet (list.walkOf (p .list) ws .met) (block.tableOf (p .block) vs)))
+
+  -- 5, then 6, then what the aim keeps of both.
+  unfoldable pub checkOf : Aim → PairCheck
+  checkOf aim =
+      cond setUp
+      (cond sound (PairCheck.Good (kept-of aim (list.walkOf (p .list) ws .met)) (entryOf aim (block.tableOf (p .block) vs))) PairCheck.Damaged)
+      PairCheck.BadSetUp
+
+-- 01's number of each case: 5, 6, or 0.
+abbrev pub checkNumber : PairCheck → ℕ
+checkNumber PairCheck.BadSetUp = 5
+checkNumber PairCheck.Damaged = 6
+checkNumber (PairCheck.Good s e) = 0
+
+-- Both lands are sound and apart, and these are what an aim keeps of them.
+pub record Checked (p : Pair) (ws vs : List ℕ) (aim : Aim) (s : Spot) (e : Entry) : Type 0 where
+  pub good : setUp p ws vs ≡ true
+  pub whole : sound p ws vs ≡ true
+  pub spot : s ≡ kept-of aim (list.walkOf (p .list) ws .met)
+  pub entry : e ≡ entryOf aim (block.tableOf (p .block) vs)
