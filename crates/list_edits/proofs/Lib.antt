@@ -2,3 +2,10 @@ pub mod Writing
 pub mod Overlay
 pub mod Editing
 pub mod PlaceWays
+pub mod Sound
+pub mod Joining
+pub mod Standing
+pub mod Inserting
+pub mod Cutting
+pub mod EditWays
+pub mod Answered

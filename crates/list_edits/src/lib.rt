@@ -1,16 +1,23 @@
-// How a list of ranges is edited: the place of a range that is to go in, and descriptors written.
+// How a list of ranges is edited at a spot that is known: a range put in, and a part taken out.
 //
 // Every function here is proved, and the crate assumes nothing of its own. These are inner functions: a `requires`
 // says what the calls of the land have checked before.
-pub mod placing;
+mod placing;
 
+use list_words::Chain;
+use list_words::Spot;
 use units::Addr;
+use units::Arena;
 use units::Range;
+ghost use mathlib.Core.Bool.{true};
 ghost use mathlib.Core.Path.{_≡_};
 ghost use lib.ListN.{length};
 ghost use Rattle.model.specs.Marks.{rng};
+ghost use Rattle.units.specs.declared.aims.Aim.{Aim};
 ghost use Rattle.list_words.specs.Laying.{describe};
 ghost use Rattle.list_edits.specs.Edits.{Room, PieceRoom, pieceHead, pieceWords, EditRoom, storeHead, storeWords};
+ghost use Rattle.list_edits.specs.Joins.{joinEdit, Putting, joinDone};
+ghost use Rattle.list_edits.specs.Chains.{metOf, Held, mayAsk, Holding, putOf, putWords, cutChain, cutWords};
 
 // What is to stand behind a range: low, then high, each if it is not empty, then the range at next.
 pub struct Edit {
@@ -32,6 +39,12 @@ pub struct Join {
 pub enum Place {
     Overlap,
     Free(Join),
+}
+
+// What a range put in gives: some byte of it is in the list already; or the chain afterwards, and the range that holds it.
+pub enum Edited {
+    Refused,
+    Done(Chain, Range),
 }
 
 // Writes the descriptor of a range with the next range's base.
@@ -62,7 +75,7 @@ fn piece(words: &mut [u64], start: Addr, range: Range, next: Addr) -> Addr
 }
 
 // Writes an edit of a list with this head, and hands back the head.
-pub fn store(words: &mut [u64], start: Addr, head: Addr, edit: Edit) -> Addr
+fn store(words: &mut [u64], start: Addr, head: Addr, edit: Edit) -> Addr
     requires { ⌜ EditRoom (start .0) (length (now words)) edit ⌝ }
     ensures { λ r. ⌜ (r ≡ storeHead head edit) × (now (words .exit) ≡ storeWords (start .0) (now (words .entry)) edit) ⌝ }
 {
@@ -77,4 +90,70 @@ pub fn store(words: &mut [u64], start: Addr, head: Addr, edit: Edit) -> Addr
     }
     lay(words, start, prev, first);
     head
+}
+
+// Writes the place of a range.
+fn put(words: &mut [u64], start: Addr, chain: Chain, range: Range, place: Join) -> Edited
+    requires { ⌜ Putting (start .0) (length (now words)) chain range place ⌝ }
+    ensures { λ r. ⌜ (r ≡ joinDone chain range place) × (now (words .exit) ≡ storeWords (start .0) (now (words .entry)) (joinEdit place)) ⌝ }
+{
+    let prev = place.prev;
+    let low = place.fresh;
+    let next = place.next;
+    let limit = low.limit;
+    let high = Range::new(limit, limit);
+    let edit = Edit {
+        prev,
+        low,
+        high,
+        next,
+    };
+    let bytes = chain.bytes.plus(range.size());
+    let ranges = chain.ranges + 1 - place.joins;
+    let head = store(words, start, chain.head, edit);
+    let after = Chain {
+        head,
+        ranges,
+        bytes,
+    };
+    Edited::Done(after, low)
+}
+
+// Puts a range into a sound list, joined with the ranges that it touches, at the first range that reaches its base.
+pub fn put_at(arena: Arena, words: &mut [u64], chain: Chain, range: Range, spot: Spot) -> Edited
+    requires { ⌜ Held arena (now words) chain (Aim.Reach (range .base)) spot ⌝ }
+    requires { ⌜ mayAsk arena range ≡ true ⌝ }
+    ensures { λ r. ⌜ (r ≡ putOf (metOf arena (now (words .entry)) chain) range) × (now (words .exit) ≡ putWords (metOf arena (now (words .entry)) chain) range (arena .base .0) (now (words .entry))) ⌝ }
+{
+    let Place::Free(p) = placing::place(arena, words, range, spot) else {
+        return Edited::Refused;
+    };
+    let place = p;
+    put(words, arena.base, chain, range, place)
+}
+
+// Takes a part out of the range at a spot of a sound list, and hands back the chain of what is left.
+pub fn cut_at(arena: Arena, words: &mut [u64], chain: Chain, spot: Spot, part: Range) -> Chain
+    requires { ⌜ Holding arena (now words) chain spot part ⌝ }
+    ensures { λ r. ⌜ (r ≡ cutChain (metOf arena (now (words .entry)) chain) part) × (now (words .exit) ≡ cutWords (metOf arena (now (words .entry)) chain) part (arena .base .0) (now (words .entry))) ⌝ }
+{
+    let prev = spot.prev;
+    let here = spot.here;
+    let next = spot.next;
+    let low = Range::new(here.base, part.base);
+    let high = Range::new(part.limit, here.limit);
+    let edit = Edit {
+        prev,
+        low,
+        high,
+        next,
+    };
+    let ranges = chain.ranges - 1 + low.pieces() + high.pieces();
+    let bytes = chain.bytes.minus(part.size());
+    let head = store(words, arena.base, chain.head, edit);
+    Chain {
+        head,
+        ranges,
+        bytes,
+    }
 }

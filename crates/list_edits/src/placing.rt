@@ -77,7 +77,7 @@ fn following(arena: Arena, words: &[u64], spot: Spot) -> Spot
 }
 
 // The place of a range at the first range of a sound list that reaches its base.
-pub fn place(arena: Arena, words: &[u64], range: Range, spot: Spot) -> Place
+pub(crate) fn place(arena: Arena, words: &[u64], range: Range, spot: Spot) -> Place
     requires { ⌜ Placing arena (length (now words)) range spot ⌝ }
     ensures { λ r. ⌜ r ≡ placeOf arena (now (words .entry)) range spot ⌝ }
 {

@@ -6,10 +6,9 @@ use mathlib.Core.Option.{none, some}
 use mathlib.Core.Path.{_≡_, refl, sym, ap, _∙_}
 use native.Mathlib.Omega.{arith}
 use lib.Dec.{eqb, ltb}
-use lib.ListN.{length}
 use borrow.Author.Tests.{ltb-true, ltb-false, lt-leb, le-leb}
 use Rattle.units.specs.declared.Range as units
-use Rattle.units.proofs.Alignments.{multiple-8}
+use Rattle.units.specs.declared.rules.Arena.{Arena}
 use Rattle.model.specs.Calls.{delete, good-range}
 use Rattle.model.specs.Lists.{holds, holder, delete-from}
 use Rattle.model.specs.Marks.{Range, rng, struct}
@@ -20,16 +19,16 @@ use Rattle.model.proofs.Reaching.{reach, reach-none, reach-some}
 use Rattle.model.proofs.Outcomes.{call-refused, call-accepted}
 use Rattle.list_words.specs.declared.Spot.{Spot}
 use Rattle.list_words.proofs.Keeping.{At, Placed, none-there, one-there, kept-reach}
+use Rattle.list_words.specs.declared.Chain.{Chain}
+use Rattle.list_edits.specs.Chains.{metOf, Holding, cutChain, cutWords}
 use Rattle.list_land.specs.Calls.{deleted, changed, refusedBy}
-use Rattle.list_land.specs.Cuts.{Cutting, cutLand, cutWords}
-use Rattle.list_land.specs.Layout.{base, limit, align, arenaOf, walkOf, closed, layout}
-use Rattle.list_land.specs.Parts.{Sought, reachLimit}
+use Rattle.list_land.specs.Layout.{base, limit, arenaOf, walkOf, layout}
+use Rattle.list_land.specs.Parts.{arenaIn, chainIn, closedWith, Sought, reachLimit}
 use Rattle.list_land.specs.declared.Changed.{Changed}
 use Rattle.list_land.specs.declared.ListLand.{ListLand}
 use Rattle.list_land.proofs.Answers.{is-delete, refuse-change}
-use Rattle.list_land.proofs.Cutting.{Cut, cut-done}
 use Rattle.list_land.proofs.LayoutLaws.{held}
-use Rattle.list_land.proofs.Requests.{sought-fine}
+use Rattle.list_land.proofs.Requests.{sought-fine, sought-held, closes}
 use Rattle.list_land.proofs.Sound.{Fine}
 
 module _ (h : ListLand) (ws : List ℕ) (y : units.Range) (s : Spot) (k : Sought h ws (reachLimit y) s) where
@@ -101,15 +100,6 @@ module _ (h : ListLand) (ws : List ℕ) (y : units.Range) (s : Spot) (k : Sought
         low : reached .at-range .base ≤ b
         low = rw here-base at (ltb-false b (s .here .base .0) (sym eu ∙ f))
 
-        cut-here : Cut h ws fit (reached .at-range) s (reached .at) y low (rules .order) (reached .reaches)
-            (multiple-8 (align h) b (fit .place .arena .align) (rules .base-aligned)) (multiple-8 (align h) l (fit .place .arena .align) (rules .limit-aligned))
-        cut-here =
-            cut-done h ws fit (reached .at-range) s (reached .at) y low (rules .order) (reached .reaches)
-            (multiple-8 (align h) b (fit .place .arena .align) (rules .base-aligned)) (multiple-8 (align h) l (fit .place .arena .align) (rules .limit-aligned))
-
-        pub delete-cutting : Cutting h (length ws) s y
-        delete-cutting = cut-here .ready
-
         held-here : (holds b l met ≡ true) × (holder b l met ≡ reached .at-range)
         held-here =
             let p = reached .at in
@@ -118,12 +108,26 @@ module _ (h : ListLand) (ws : List ℕ) (y : units.Range) (s : Spot) (k : Sought
               rw (p .split) (holder-below b l (p .front) (q ∷ p .rest) (reached .below) ∙ holder-here b l q (p .rest) low (reached .reaches)),
             )
 
-        pub delete-0 : (n : ListLand) (ws' : List ℕ) → (n ≡ cutLand h s y) × (ws' ≡ cutWords h ws s y) →
-            (record { land = n; answer = 0; range = s .here } ≡ changed (deleted h ws y)) × (ws' ≡ deleted h ws y .words)
-        delete-0 n ws' q =
-            let new = delete-from b l met in
-            let o = held-here in
-            let d = is-delete h ws y ∙ call-accepted layout (delete b l) h ws (walkOf h ws .met) (held h ws (k .good) (k .whole)) (holder b l met) (rng 0 0) new (rw (g, o .0)) in
-            let e1 : n ≡ closed h new = q .0 ∙ cut-here .land in
-            let e2 : s .here ≡ struct (holder b l met) = reached .at .here ∙ sym (ap struct (o .1)) in
-            (rw d (λ i. record { land = e1 i; answer = 0; range = e2 i }), rw d (q .1 ∙ cut-here .words))
+        module _ (a : Arena) (ea : a ≡ arenaIn h) (c : Chain) (ec : c ≡ chainIn h) where
+          pub delete-holding : Holding a ws c s y
+          delete-holding = record {
+            aim = reachLimit y;
+            held = sought-held h ws (reachLimit y) s k a ea c ec;
+            low = ltb-false b (s .here .base .0) (sym eu ∙ f);
+            proper = rules .order;
+            high = rw (reached .at .here) (reached .reaches);
+            base-aligned = rw ea (rules .base-aligned);
+            limit-aligned = rw ea (rules .limit-aligned);
+          }
+
+          pub delete-0 : (n : Chain) (ws' : List ℕ) → (n ≡ cutChain (metOf a ws c) y) × (ws' ≡ cutWords (metOf a ws c) y (a .base .0) ws) →
+              (z : ListLand) → z ≡ closedWith h (n .head) (n .ranges) (n .bytes) →
+              (record { land = z; answer = 0; range = s .here } ≡ changed (deleted h ws y)) × (ws' ≡ deleted h ws y .words)
+          delete-0 n ws' e z ez =
+              let q : (n ≡ cutChain met y) × (ws' ≡ cutWords met y (base h) ws) = rw (ea, ec) at e in
+              let new = delete-from b l met in
+              let o = held-here in
+              let d = is-delete h ws y ∙ call-accepted layout (delete b l) h ws (walkOf h ws .met) (held h ws (k .good) (k .whole)) (holder b l met) (rng 0 0) new (rw (g, o .0)) in
+              let e1 = closes h new n (q .0) z ez in
+              let e2 : s .here ≡ struct (holder b l met) = reached .at .here ∙ sym (ap struct (o .1)) in
+              (rw d (λ i. record { land = e1 i; answer = 0; range = e2 i }), rw d (q .1))

@@ -6,7 +6,6 @@ use mathlib.Core.Option.{some}
 use mathlib.Core.Path.{_≡_, refl, sym, ap, ap₂, _∙_}
 use native.Mathlib.Omega.{arith}
 use lib.Dec.{eqb}
-use lib.ListN.{length}
 use types.Run.{OneOf}
 use denote.Enum.Declared.{tagOf}
 use Rattle.units.specs.Rules.{findSize}
@@ -16,7 +15,6 @@ use Rattle.units.specs.declared.Size.{Size}
 use Rattle.units.specs.declared.Which.{Which}
 use Rattle.units.specs.declared.rules.Arena.{Arena}
 use Rattle.units.specs.declared.aims.Aim.{Aim}
-use Rattle.units.proofs.Alignments.{multiple-8}
 use Rattle.units.proofs.Mode as mode-type
 use Rattle.model.specs.Calls.{find, good-size}
 use Rattle.model.specs.Lists.{delete-from}
@@ -32,17 +30,17 @@ use Rattle.finds.specs.Parts.{Within}
 use Rattle.list_words.specs.declared.Spot.{Spot}
 use Rattle.list_words.proofs.Keeping.{At, Placed, none-there, one-there, kept-find}
 use Rattle.list_words.proofs.Laid.{lay-laid}
+use Rattle.list_words.specs.declared.Chain.{Chain}
+use Rattle.list_edits.specs.Chains.{metOf, Holding, cutChain, cutWords}
 use Rattle.list_land.specs.Calls.{found, foundOf, foundNone}
-use Rattle.list_land.specs.Cuts.{Cutting, cutLand, cutWords}
-use Rattle.list_land.specs.Layout.{base, limit, align, arenaOf, walkOf, closed, layout}
-use Rattle.list_land.specs.Parts.{arenaIn, lookOf, Sought, findAim}
+use Rattle.list_land.specs.Layout.{base, limit, align, arenaOf, walkOf, layout}
+use Rattle.list_land.specs.Parts.{arenaIn, chainIn, lookOf, closedWith, Sought, findAim}
 use Rattle.list_land.specs.declared.Found.{Found}
 use Rattle.list_land.specs.declared.ListLand.{ListLand}
 use Rattle.list_land.specs.declared.Look.{Look}
 use Rattle.list_land.proofs.Answers.{is-find, refuse-find, saw-sound}
-use Rattle.list_land.proofs.Cutting.{Cut, cut-done}
 use Rattle.list_land.proofs.LayoutLaws.{held, handle-back}
-use Rattle.list_land.proofs.Requests.{sought-fine}
+use Rattle.list_land.proofs.Requests.{sought-fine, sought-held, closes}
 use Rattle.list_land.proofs.Sound.{Fine}
 
 -- the aim of the code is the one that the definition names
@@ -130,23 +128,26 @@ module _ (h : ListLand) (ws : List ℕ) (w : Which) (n : Size) (mode : Mode) (s 
             (mem-stands (align h) (base h) (limit h) met q (fit .apart) (fit .straight) (choose-mem w want met q (choice .is) .0))
             (choice .long) (find-size-rules (arenaOf h) w (n .0) g)
 
-        cut-part : Cut h ws fit q s (choice .at) (struct f) (takes .low) (takes .proper) (takes .high)
-            (multiple-8 (align h) (f .base) (fit .place .arena .align) (takes .base-aligned)) (multiple-8 (align h) (f .limit) (fit .place .arena .align) (takes .limit-aligned))
-        cut-part =
-            cut-done h ws fit q s (choice .at) (struct f) (takes .low) (takes .proper) (takes .high)
-            (multiple-8 (align h) (f .base) (fit .place .arena .align) (takes .base-aligned)) (multiple-8 (align h) (f .limit) (fit .place .arena .align) (takes .limit-aligned))
+        module _ (c : Chain) (ec : c ≡ chainIn h) where
+          pub find-holding : Holding a ws c s y
+          find-holding = record {
+            aim = findAim h w n;
+            held = sought-held h ws (findAim h w n) s k a ea c ec;
+            low = rw (choice .at .here, is-part) (takes .low);
+            proper = rw is-part (takes .proper);
+            high = rw (choice .at .here, is-part) (takes .high);
+            base-aligned = rw (ea, is-part) (takes .base-aligned);
+            limit-aligned = rw (ea, is-part) (takes .limit-aligned);
+          }
 
-        pub find-cutting : Cutting h (length ws) s y
-        find-cutting = rw is-part (cut-part .ready)
-
-        pub find-0 : (z : ListLand) (ws' : List ℕ) → (z ≡ cutLand h s y) × (ws' ≡ cutWords h ws s y) → Gives (record { land = z; answer = 0; range = y; old = s .here }) ws'
-        find-0 z ws' p =
-            let new = delete-from (f .base) (f .limit) met in
-            let d = is-find h ws w (n .0) mode
-            ∙ call-accepted layout (find w (n .0) mode) h ws (walkOf h ws .met) (held h ws (k .good) (k .whole)) f q new (find-takes (arenaOf h) w (n .0) mode met q g (choice .is) o refl) in
-            let e1 : z ≡ closed h new = p .0 ∙ ap (cutLand h s) is-part ∙ cut-part .land in
-            let e2 = is-part in
-            let e3 = choice .at .here in (
-              rw d (λ i. record { land = e1 i; answer = 0; range = e2 i; old = e3 i }),
-              rw d (p .1 ∙ ap (cutWords h ws s) is-part ∙ cut-part .words),
-            )
+          pub find-0 : (v : Chain) (ws' : List ℕ) → (v ≡ cutChain (metOf a ws c) y) × (ws' ≡ cutWords (metOf a ws c) y (a .base .0) ws) →
+              (z : ListLand) → z ≡ closedWith h (v .head) (v .ranges) (v .bytes) → Gives (record { land = z; answer = 0; range = y; old = s .here }) ws'
+          find-0 v ws' p z ez =
+              let u : (v ≡ cutChain met (struct f)) × (ws' ≡ cutWords met (struct f) (base h) ws) = rw (ea, ec, is-part) at p in
+              let new = delete-from (f .base) (f .limit) met in
+              let d = is-find h ws w (n .0) mode
+              ∙ call-accepted layout (find w (n .0) mode) h ws (walkOf h ws .met) (held h ws (k .good) (k .whole)) f q new (find-takes (arenaOf h) w (n .0) mode met q g (choice .is) o refl) in
+              let e1 = closes h new v (u .0) z ez in
+              let e2 = is-part in
+              let e3 = choice .at .here in
+              (rw d (λ i. record { land = e1 i; answer = 0; range = e2 i; old = e3 i }), rw d (u .1))

@@ -1,11 +1,6 @@
 pub mod Sound
 pub mod LayoutLaws
-pub mod Cutting
-pub mod Joining
-pub mod Standing
-pub mod Inserting
 pub mod Ways
-pub mod PlaceWays
 pub mod Answers
 pub mod Requests
 pub mod InsertAnswers

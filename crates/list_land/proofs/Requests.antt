@@ -2,11 +2,15 @@
 use Prim.Native.Nat.{ℕ, _<_}
 use mathlib.Core.Bool.{true}
 use mathlib.Core.List.{List}
-use mathlib.Core.Path.{_≡_}
+use mathlib.Core.Path.{_≡_, ap, _∙_}
 use Rattle.units.specs.Rules.{goodAlign}
 use Rattle.units.specs.declared.rules.Arena.{Arena}
 use Rattle.units.specs.declared.aims.Aim.{Aim}
-use Rattle.list_land.specs.Parts.{arenaIn, Sought}
+use Rattle.model.specs.Marks.{Range}
+use Rattle.list_edits.specs.Chains.{Held, chainOf}
+use Rattle.list_words.specs.declared.Chain.{Chain}
+use Rattle.list_land.specs.Layout.{sound, closed}
+use Rattle.list_land.specs.Parts.{arenaIn, chainIn, closedWith, Sought}
 use Rattle.list_land.specs.declared.ListLand.{ListLand}
 use Rattle.list_land.proofs.Sound.{Fine, fine, placed}
 use Rattle.list_words.specs.declared.Spot.{Spot}
@@ -19,3 +23,12 @@ sought-positive h ws aim s a k e = rw e (placed h ws (k .good) .positive)
 
 pub sought-align : (h : ListLand) (ws : List ℕ) (aim : Aim) (s : Spot) → Sought h ws aim s → goodAlign (h .align .0) ≡ true
 sought-align h ws aim s k = placed h ws (k .good) .arena .align
+
+-- the spot of the arena and the chain that the code passes on
+pub sought-held : (h : ListLand) (ws : List ℕ) (aim : Aim) (s : Spot) → Sought h ws aim s → (a : Arena) → a ≡ arenaIn h → (c : Chain) → c ≡ chainIn h → Held a ws c aim s
+unfolding sound
+sought-held h ws aim s k a ea c ec = rw (ea, ec) (record { ready = placed h ws (k .good) .ready; whole = k .whole; kept = k .kept })
+
+-- the next handle, from the chain of its ranges
+pub closes : (h : ListLand) (rs : List Range) (n : Chain) → n ≡ chainOf rs → (z : ListLand) → z ≡ closedWith h (n .head) (n .ranges) (n .bytes) → z ≡ closed h rs
+closes h rs n e z ez = ez ∙ ap (λ (v : Chain). closedWith h (v .head) (v .ranges) (v .bytes)) e

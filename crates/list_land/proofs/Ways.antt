@@ -28,7 +28,7 @@ use Rattle.list_words.specs.declared.Spot.{Spot}
 use Rattle.list_words.specs.declared.Verdict.{Verdict}
 use Rattle.list_land.specs.Calls.{refusedBy, foundNone, newLand, openedOf}
 use Rattle.list_land.specs.Layout.{base, limit, align, setUp, walkOf, sound}
-use Rattle.list_land.specs.Parts.{arenaIn, chainOf, lookOf}
+use Rattle.list_land.specs.Parts.{arenaIn, chainIn, lookOf}
 use Rattle.list_land.specs.declared.ListLand.{ListLand}
 use Rattle.list_land.specs.declared.Look.{Look}
 use Rattle.list_land.proofs.Sound.{placed}
@@ -78,7 +78,7 @@ module _ (h : ListLand) (ws : List ℕ) (aim : Aim) (r : SetUp) (e : r ≡ setUp
     pub look-ready : Ready a (length ws)
     look-ready = rw ea (placed h ws (set-up-true (setUp h ws) r e f) .ready)
 
-    module _ (c : Chain) (ec : c ≡ chainOf h) (v : Verdict) (ev : v ≡ surveyOf a ws c aim) where
+    module _ (c : Chain) (ec : c ≡ chainIn h) (v : Verdict) (ev : v ≡ surveyOf a ws c aim) where
       seen : v ≡ cond (sound h ws) (Verdict.Sound (kept-of aim (walkOf h ws .met))) Verdict.Damaged
       unfolding surveyOf sound
       seen = ev ∙ ap₂ (λ (x : Arena) (y : Chain). surveyOf x ws y aim) ea ec

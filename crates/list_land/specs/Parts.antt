@@ -20,8 +20,8 @@ use Rattle.list_land.specs.Layout.{align, setUp, walkOf, sound}
 abbrev pub arenaIn : ListLand → Arena
 arenaIn h = record { base = h .base; limit = h .limit; align = h .align }
 
-abbrev pub chainOf : ListLand → Chain
-chainOf h = record { head = h .head; ranges = h .ranges; bytes = h .bytes }
+abbrev pub chainIn : ListLand → Chain
+chainIn h = record { head = h .head; ranges = h .ranges; bytes = h .bytes }
 
 -- Document 01's number of each case: 5, 6, or 0.
 abbrev pub lookNumber : Look → ℕ

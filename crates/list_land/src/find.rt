@@ -47,9 +47,9 @@ impl ListLand {
                 old: here,
             };
         }
-        let land = self.cut(words, spot, taken);
+        let chain = list_edits::cut_at(arena, words, self.chain(), spot, taken);
         Found {
-            land,
+            land: self.close(chain.head, chain.ranges, chain.bytes),
             answer: 0,
             range: taken,
             old: here,

@@ -22,7 +22,7 @@ ghost use mathlib.Core.Path.{_≡_};
 ghost use Rattle.units.specs.Rules.{goodAlign, setUpOf};
 ghost use Rattle.list_land.specs.Layout.{setUp};
 ghost use Rattle.list_land.specs.Calls.{refusedBy, changed, walked, openedOf};
-ghost use Rattle.list_land.specs.Parts.{arenaIn, chainOf, lookOf, closedWith};
+ghost use Rattle.list_land.specs.Parts.{arenaIn, chainIn, lookOf, closedWith};
 
 // The handle of a list land: its arena, the first range's base (or 0), the number of ranges and of free bytes.
 #[repr(C)]
@@ -95,8 +95,9 @@ impl ListLand {
         self.arena().divided()
     }
 
-    fn chain(self) -> Chain
-        ensures { λ r. ⌜ r ≡ chainOf self ⌝ }
+    // The chain of the handle.
+    pub(crate) fn chain(self) -> Chain
+        ensures { λ r. ⌜ r ≡ chainIn self ⌝ }
     {
         let head = self.head;
         let bytes = self.bytes;

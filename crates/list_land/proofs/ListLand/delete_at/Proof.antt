@@ -5,7 +5,7 @@ use borrow.Author.Needs.{needs}
 use Rattle.model.proofs.Checks.{range-bad, range-good}
 use Rattle.model.specs.Calls.{good-range}
 use Rattle.list_land.specs.Layout.{arenaOf}
-use Rattle.list_land.proofs.DeleteAnswers.{delete-4, delete-behind, delete-before, delete-cutting, delete-0}
+use Rattle.list_land.proofs.DeleteAnswers.{delete-4, delete-behind, delete-before, delete-holding, delete-0}
 use Rattle.list_land.proofs.Requests.{sought-positive, sought-align}
 use Rattle.list_land.proofs.ListLand.delete_at.Statement.{statement}
 use Rattle.list_land.proofs.ListLand.delete_at.Tie as tie
@@ -60,23 +60,32 @@ returns-3 c =
     delete-before _ _ (entry .args .range) _ (entry .pre) (good checked) _ (c .before .before .before .before .is-zero .ensures)
     (c .before .before .before .if1 .left) _ (c .before .before .lt .ensures) (c .before .if2 .taken) _ (c .refused3 .ensures)
 
-cut-requires : tie.Need-cut-requires
-cut-requires c κs =
-    let checked = c .before .before .before .before .before .before in
+chain-requires : tie.Need-chain-requires
+chain-requires c κs = search needs
+
+cut-at-requires : tie.Need-cut-at-requires
+cut-at-requires c κs =
+    let held = c .before .before in
+    let checked = held .before .before .before .before .before in
     let entry = checked .before .before .before .before .before in
-    delete-cutting _ _ (entry .args .range) _ (entry .pre) (good checked) _ (c .before .before .before .before .is-zero .ensures)
-    (c .before .before .before .if1 .left) _ (c .before .before .lt .ensures) (c .before .if2 .left)
+    delete-holding _ _ (entry .args .range) _ (entry .pre) (good checked) _ (held .before .before .before .is-zero .ensures) (held .before .before .if1 .left)
+    _ (held .before .lt .ensures) (held .if2 .left) _ (checked .before .before .before .good-arena .ensures) _ (c .chain .ensures)
+
+close-requires : tie.Need-close-requires
+close-requires c κs = search needs
 
 same-length : tie.Need-same-length
 same-length c = search needs
 
 returns-4 : tie.Need-returns-4
 returns-4 c =
-    let checked = c .before .before .before .before .before .before .before .before .before in
+    let cut = c .before .before .before in
+    let held = cut .before .before .before in
+    let checked = held .before .before .before .before .before in
     let entry = checked .before .before .before .before .before in
-    delete-0 _ _ (entry .args .range) _ (entry .pre) (good checked) _ (c .before .before .before .before .before .before .before .is-zero .ensures)
-    (c .before .before .before .before .before .before .if1 .left) _ (c .before .before .before .before .before .lt .ensures)
-    (c .before .before .before .before .if2 .left) _ _ (c .before .before .cut .ensures)
+    delete-0 _ _ (entry .args .range) _ (entry .pre) (good checked) _ (held .before .before .before .is-zero .ensures) (held .before .before .if1 .left)
+    _ (held .before .lt .ensures) (held .if2 .left) _ (checked .before .before .before .good-arena .ensures) _ (cut .before .chain .ensures) _ _ (cut .cut-at .ensures)
+    _ (c .close .ensures)
 
 pub delete-at-spec : {M : Type 1} → statement M
 delete-at-spec =
@@ -93,6 +102,8 @@ delete-at-spec =
     lt-requires
     refused-requires-3
     returns-3
-    cut-requires
+    chain-requires
+    cut-at-requires
+    close-requires
     same-length
     returns-4)

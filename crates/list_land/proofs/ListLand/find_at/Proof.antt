@@ -5,7 +5,7 @@ use borrow.Author.Needs.{needs}
 use Rattle.model.proofs.Checks.{size-bad, size-good}
 use Rattle.model.specs.Calls.{good-size}
 use Rattle.list_land.specs.Layout.{arenaOf}
-use Rattle.list_land.proofs.FindAnswers.{find-4, find-2, find-within, find-kept, find-cutting, find-0}
+use Rattle.list_land.proofs.FindAnswers.{find-4, find-2, find-within, find-kept, find-holding, find-0}
 use Rattle.list_land.proofs.Requests.{sought-positive, sought-align}
 use Rattle.list_land.proofs.ListLand.find_at.Statement.{statement}
 use Rattle.list_land.proofs.ListLand.find_at.Tie as tie
@@ -68,26 +68,34 @@ returns-3 c =
     find-kept _ _ (entry .args .which) (entry .args .size) (entry .args .mode) _ (entry .pre) (good checked) _
     (c .before .before .before .before .before .is-zero .ensures) (c .before .before .before .before .if1 .left) (c .enum-told2 .given .1)
 
-cut-requires : tie.Need-cut-requires
-cut-requires c κs =
-    let checked = c .before .before .before .before .before .before .before in
+chain-requires : tie.Need-chain-requires
+chain-requires c κs = search needs
+
+cut-at-requires : tie.Need-cut-at-requires
+cut-at-requires c κs =
+    let some = c .before .before in
+    let checked = some .before .before .before .before .before .before in
     let entry = checked .before .before .before .before .before in
-    find-cutting _ _ (entry .args .which) (entry .args .size) (entry .args .mode) _ (entry .pre) (good checked) _
-    (c .before .before .before .before .before .is-zero .ensures) (c .before .before .before .before .if1 .left) (c .before .match2 .keys2) _
-    (checked .before .before .before .good-arena .ensures) _ (c .before .before .before .find-size .ensures) _ (c .before .before .part .ensures)
+    find-holding _ _ (entry .args .which) (entry .args .size) (entry .args .mode) _ (entry .pre) (good checked) _
+    (some .before .before .before .before .is-zero .ensures) (some .before .before .before .if1 .left) (some .match2 .keys2) _
+    (checked .before .before .before .good-arena .ensures) _ (some .before .before .find-size .ensures) _ (some .before .part .ensures) _ (c .chain .ensures)
+
+close-requires : tie.Need-close-requires
+close-requires c κs = search needs
 
 same-length : tie.Need-same-length
 same-length c = search needs
 
 returns-4 : tie.Need-returns-4
 returns-4 c =
-    let checked = c .before .before .before .before .before .before .before .before .before .before in
+    let cut = c .before .before .before in
+    let some = cut .before .before .before in
+    let checked = some .before .before .before .before .before .before in
     let entry = checked .before .before .before .before .before in
     find-0 _ _ (entry .args .which) (entry .args .size) (entry .args .mode) _ (entry .pre) (good checked) _
-    (c .before .before .before .before .before .before .before .before .is-zero .ensures)
-    (c .before .before .before .before .before .before .before .if1 .left) (c .before .before .before .before .match2 .keys2) _
-    (checked .before .before .before .good-arena .ensures) _ (c .before .before .before .before .before .before .find-size .ensures) _
-    (c .before .before .before .before .before .part .ensures) _ _ (c .before .before .cut .ensures)
+    (some .before .before .before .before .is-zero .ensures) (some .before .before .before .if1 .left) (some .match2 .keys2) _
+    (checked .before .before .before .good-arena .ensures) _ (some .before .before .find-size .ensures) _ (some .before .part .ensures) _ (cut .before .chain .ensures) _ _
+    (cut .cut-at .ensures) _ (c .close .ensures)
 
 pub find-at-spec : {M : Type 1} → statement M
 find-at-spec =
@@ -105,6 +113,8 @@ find-at-spec =
     part-requires
     enum-told-2
     returns-3
-    cut-requires
+    chain-requires
+    cut-at-requires
+    close-requires
     same-length
     returns-4)

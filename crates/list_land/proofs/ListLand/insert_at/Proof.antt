@@ -5,7 +5,7 @@ use borrow.Author.Needs.{needs}
 use Rattle.model.proofs.Checks.{range-bad, range-good}
 use Rattle.model.specs.Calls.{good-range}
 use Rattle.list_land.specs.Layout.{arenaOf}
-use Rattle.list_land.proofs.InsertAnswers.{insert-4, insert-placing, insert-1, insert-putting, insert-0}
+use Rattle.list_land.proofs.InsertAnswers.{insert-4, insert-asks, insert-1, insert-0}
 use Rattle.list_land.proofs.Requests.{sought-positive, sought-align}
 use Rattle.list_land.proofs.ListLand.insert_at.Statement.{statement}
 use Rattle.list_land.proofs.ListLand.insert_at.Tie as tie
@@ -35,11 +35,17 @@ returns c =
     (range-bad (arenaOf (entry .args .self)) _ (c .before .before .before .good-arena .ensures) (entry .args .range) _ (c .before .before .check-range .ensures) (c .before .match .keys2))
     _ (c .refused .ensures)
 
-place-requires : tie.Need-place-requires
-place-requires c κs = insert-placing _ _ (c .before .before .before .before .before .before .args .range) _ (c .before .before .before .before .before .before .pre) (good (c .before)) _ (c .before .before .before .before .good-arena .ensures)
+chain-requires : tie.Need-chain-requires
+chain-requires c κs = search needs
 
-enum-known-p : tie.Need-enum-known-p
-enum-known-p c = search needs
+put-at-requires : tie.Need-put-at-requires
+put-at-requires c κs =
+    let checked = c .before .before in
+    let entry = checked .before .before .before .before .before in
+    insert-asks _ _ (entry .args .range) _ (entry .pre) (good checked) _ (checked .before .before .before .good-arena .ensures) _ (c .chain .ensures)
+
+enum-known-c : tie.Need-enum-known-c
+enum-known-c c = search needs
 
 enum-told-2 : tie.Need-enum-told-2
 enum-told-2 c = search needs
@@ -52,26 +58,25 @@ same-length c = search needs
 
 returns-2 : tie.Need-returns-2
 returns-2 c =
-    let checked = c .before .before .before .before .before in
+    let put = c .before .before .before .before .before in
+    let checked = put .before .before .before in
     let entry = checked .before .before .before .before .before in
-    insert-1 _ _ (entry .args .range) _ (entry .pre) (good checked) _ (checked .before .before .before .good-arena .ensures) _ (c .before .before .before .place .ensures) (c .before .enum-told2 .given .1) _
-    (c .refused2 .ensures)
+    insert-1 _ _ (entry .args .range) _ (entry .pre) (good checked) _ (checked .before .before .before .good-arena .ensures) _ (put .before .chain .ensures) _ _
+    (put .put-at .ensures) (c .before .enum-told2 .given .1) _ (c .refused2 .ensures)
 
-put-requires : tie.Need-put-requires
-put-requires c κs =
-    let checked = c .before .before .before .before .before .before in
-    let entry = checked .before .before .before .before .before in
-    insert-putting _ _ (entry .args .range) _ (entry .pre) (good checked) _ (checked .before .before .before .good-arena .ensures) _ (c .before .before .before .before .place .ensures) _ (c .before .before .p .given .1)
+close-requires : tie.Need-close-requires
+close-requires c κs = search needs
 
 same-length-2 : tie.Need-same-length-2
 same-length-2 c = search needs
 
 returns-3 : tie.Need-returns-3
 returns-3 c =
-    let checked = c .before .before .before .before .before .before .before .before .before in
+    let put = c .before .before .before .before .before .before in
+    let checked = put .before .before .before in
     let entry = checked .before .before .before .before .before in
-    insert-0 _ _ (entry .args .range) _ (entry .pre) (good checked) _ (checked .before .before .before .good-arena .ensures) _ (c .before .before .before .before .before .before .before .place .ensures) _
-    (c .before .before .before .before .before .p .given .1) _ _ (c .before .before .put .ensures)
+    insert-0 _ _ (entry .args .range) _ (entry .pre) (good checked) _ (checked .before .before .before .good-arena .ensures) _ (put .before .chain .ensures) _ _
+    (put .put-at .ensures) _ _ (c .before .before .c .given .1) _ (c .close .ensures)
 
 pub insert-at-spec : {M : Type 1} → statement M
 insert-at-spec =
@@ -82,12 +87,13 @@ insert-at-spec =
     enum-told
     refused-requires
     returns
-    place-requires
-    enum-known-p
+    chain-requires
+    put-at-requires
+    enum-known-c
     enum-told-2
     refused-requires-2
     same-length
     returns-2
-    put-requires
+    close-requires
     same-length-2
     returns-3)

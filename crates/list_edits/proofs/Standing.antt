@@ -10,32 +10,33 @@ use lib.ListN.{length}
 use borrow.Author.Tests.{ne-eqb, le-ltb, eqb-true}
 use Rattle.units.specs.Words.{rangeOf, addr}
 use Rattle.units.specs.declared.Range as units
+use Rattle.units.specs.declared.aims.Aim.{Aim}
+use Rattle.units.specs.declared.rules.Arena.{Arena}
 use Rattle.units.proofs.Tests.{by, tests}
 use Rattle.model.specs.Marks.{Range}
 use Rattle.model.specs.Lists.{Apart, Aligned, total, overlaps, insert-in}
 use Rattle.model.proofs.Places.{Before, apart-rest, aligned-rest, insert-below}
 use Rattle.model.proofs.Reaching.{reach, reach-none, reach-some}
 use Rattle.list_edits.specs.Places.{followingOf, joinOf, placeOf}
 use Rattle.list_words.specs.Laying.{head-of}
 use Rattle.list_words.specs.declared.Spot.{Spot}
 use Rattle.list_words.proofs.Keeping.{Last, At, Behind, Placed, kept-reach}
 use Rattle.list_words.proofs.Laid.{Laid, laid-rest, even-head}
 use Rattle.list_words.proofs.Meeting.{told-step}
-use Rattle.list_land.specs.Layout.{base, limit, align, walkOf}
-use Rattle.list_land.specs.Parts.{arenaIn, Sought, reachBase}
-use Rattle.list_land.specs.declared.ListLand.{ListLand}
-use Rattle.list_land.proofs.Joining.{Above, Over}
-use Rattle.list_land.proofs.Sound.{Fine}
+use Rattle.list_words.specs.declared.Chain.{Chain}
+use Rattle.list_edits.specs.Chains.{metOf, Held}
+use Rattle.list_edits.proofs.Joining.{Above, Over}
+use Rattle.list_edits.proofs.Sound.{Fine}
 
 -- the request y goes behind front, as [x, limit) before ups, where old stood
-pub record Stand (h : ListLand) (ws : List ℕ) (y : units.Range) (s : Spot) : Type 0 where
+pub record Stand (a : Arena) (ws : List ℕ) (c : Chain) (y : units.Range) (s : Spot) : Type 0 where
   pub front : List Range
   pub old : List Range
   pub ups : List Range
   pub x : ℕ
   pub joins : ℕ
   pub above : Spot
-  pub split : walkOf h ws .met ≡ front ++ old
+  pub split : metOf a ws c ≡ front ++ old
   pub last : Last front (s .prev)
   pub below : Before (y .base .0) front
   pub start : x ≤ y .base .0
@@ -45,13 +46,13 @@ pub record Stand (h : ListLand) (ws : List ℕ) (y : units.Range) (s : Spot) : T
   pub bytes : total old + (y .limit .0 - y .base .0) ≡ total ups + (y .limit .0 - x)
   pub one-more : joins ≤ 1
   pub lo : ℕ
-  pub apart : Apart lo (limit h) ups
-  pub laid : Laid (base h) ups ws
+  pub apart : Apart lo (a .limit .0) ups
+  pub laid : Laid (a .base .0) ups ws
   pub at-ups : Above ups above
   pub over : Over (y .base .0) ups
-  pub place : placeOf (arenaIn h) ws y s ≡ joinOf (s .prev) (rangeOf x (y .limit .0)) joins above
+  pub place : placeOf a ws y s ≡ joinOf (s .prev) (rangeOf x (y .limit .0)) joins above
 
-module _ (h : ListLand) (ws : List ℕ) (f : Fine h ws) (y : units.Range) (s : Spot) (from : base h ≤ y .base .0) (proper : y .base .0 < y .limit .0) where
+module _ (a : Arena) (ws : List ℕ) (c : Chain) (f : Fine a ws c) (y : units.Range) (s : Spot) (from : a .base .0 ≤ y .base .0) (proper : y .base .0 < y .limit .0) where
   abbrev b : ℕ
   b = y .base .0
 
@@ -59,14 +60,13 @@ module _ (h : ListLand) (ws : List ℕ) (f : Fine h ws) (y : units.Range) (s : S
   l = y .limit .0
 
   abbrev met : List Range
-  met = walkOf h ws .met
+  met = metOf a ws c
 
   -- behind every range
-  stand-behind : Before b met → Behind met s → Stand h ws y s
+  stand-behind : Before b met → Behind met s → Stand a ws c y s
   unfolding placeOf
   stand-behind k p =
-      let a = f .place .arena in
-      let z : eqb (s .here .limit .0) b ≡ false = rw (p .here) (ne-eqb 0 b (λ e. omega (arith, a .above))) in
+      let z : eqb (s .here .limit .0) b ≡ false = rw (p .here) (ne-eqb 0 b (λ e. omega (arith, f .place .arena .above))) in
       record {
         front = met;
         old = [];
@@ -92,17 +92,17 @@ module _ (h : ListLand) (ws : List ℕ) (f : Fine h ws) (y : units.Range) (s : S
       }
 
   module _ (q : Range) (p : At met q s) (k : Before b (p .front)) (reaches : b ≤ q .limit) where
-    here : Apart (base h) (limit h) (p .front ++ q ∷ p .rest)
+    here : Apart (a .base .0) (a .limit .0) (p .front ++ q ∷ p .rest)
     here = rw (p .split) at (f .apart)
 
-    laid-here : Laid (base h) (q ∷ p .rest) ws
-    laid-here = laid-rest (base h) ws (p .front) (q ∷ p .rest) (rw (p .split) at (f .laid))
+    laid-here : Laid (a .base .0) (q ∷ p .rest) ws
+    laid-here = laid-rest (a .base .0) ws (p .front) (q ∷ p .rest) (rw (p .split) at (f .laid))
 
     -- before a range that ends above its base
-    stand-before : eqb (q .limit) b ≡ false → Stand h ws y s
+    stand-before : eqb (q .limit) b ≡ false → Stand a ws c y s
     unfolding placeOf
     stand-before t =
-        let pr = apart-rest (base h) (limit h) (p .front) q (p .rest) here in
+        let pr = apart-rest (a .base .0) (a .limit .0) (p .front) q (p .rest) here in
         let z : eqb (s .here .limit .0) b ≡ false = rw (p .here) t in
         record {
           front = p .front;
@@ -129,27 +129,27 @@ module _ (h : ListLand) (ws : List ℕ) (f : Fine h ws) (y : units.Range) (s : S
         }
 
     -- the spot after q
-    follows : (rest : List Range) → p .rest ≡ rest → Above rest (followingOf (arenaIn h) ws s)
+    follows : (rest : List Range) → p .rest ≡ rest → Above rest (followingOf a ws s)
     unfolding followingOf
     follows [] e = rw (p .next, e) (refl, refl)
     follows (r ∷ rs) e =
-        let h' : Apart (base h) (limit h) (p .front ++ q ∷ r ∷ rs) = rw e at here in
-        let pr = apart-rest (base h) (limit h) (p .front) q (r ∷ rs) h' in
-        let al : Aligned (align h) (p .front ++ q ∷ r ∷ rs) = rw (p .split, e) at (f .straight) in
+        let h' : Apart (a .base .0) (a .limit .0) (p .front ++ q ∷ r ∷ rs) = rw e at here in
+        let pr = apart-rest (a .base .0) (a .limit .0) (p .front) q (r ∷ rs) h' in
+        let al : Aligned (a .align .0) (p .front ++ q ∷ r ∷ rs) = rw (p .split, e) at (f .straight) in
         let al8 : Aligned 8 (p .front ++ q ∷ r ∷ rs) = rw (p .split, e) at (f .aligned) in
-        let a = aligned-rest (align h) (p .front) q (r ∷ rs) al in
+        let st = aligned-rest (a .align .0) (p .front) q (r ∷ rs) al in
         let a8 = aligned-rest 8 (p .front) q (r ∷ rs) al8 in
-        let d : Laid (base h) (q ∷ r ∷ rs) ws = rw e at laid-here in
-        let t = told-step (base h) (limit h) (align h) ws (q .limit + 1) r (head-of rs) (d .1 .0) (even-head rs (a8 .2 .2)) (omega arith) (pr .3 .1) (pr .3 .2)
-        (a .2 .0) (a .2 .1) (a8 .2 .0) (a8 .2 .1) in
+        let d : Laid (a .base .0) (q ∷ r ∷ rs) ws = rw e at laid-here in
+        let t = told-step (a .base .0) (a .limit .0) (a .align .0) ws (q .limit + 1) r (head-of rs) (d .1 .0) (even-head rs (a8 .2 .2)) (omega arith) (pr .3 .1) (pr .3 .2)
+        (st .2 .0) (st .2 .1) (a8 .2 .0) (a8 .2 .1) in
         let n : s .next ≡ addr (r .base) = p .next ∙ ap (λ (xs : List Range). addr (head-of xs)) e in
         rw (n, p .here, ne-eqb (r .base) 0 (λ z. omega arith), t) (refl, refl, omega arith)
 
     -- behind a range that it touches
-    stand-touching : eqb (q .limit) b ≡ true → Stand h ws y s
+    stand-touching : eqb (q .limit) b ≡ true → Stand a ws c y s
     unfolding placeOf
     stand-touching t =
-        let pr = apart-rest (base h) (limit h) (p .front) q (p .rest) here in
+        let pr = apart-rest (a .base .0) (a .limit .0) (p .front) q (p .rest) here in
         let e = eqb-true (q .limit) b t in
         let z : eqb (s .here .limit .0) b ≡ true = rw (p .here) t in
         record {
@@ -158,7 +158,7 @@ module _ (h : ListLand) (ws : List ℕ) (f : Fine h ws) (y : units.Range) (s : S
           ups = p .rest;
           x = q .base;
           joins = 1;
-          above = followingOf (arenaIn h) ws s;
+          above = followingOf a ws s;
           split = p .split;
           last = p .last;
           below = k;
@@ -173,21 +173,21 @@ module _ (h : ListLand) (ws : List ℕ) (f : Fine h ws) (y : units.Range) (s : S
           laid = laid-here .1;
           at-ups = follows (p .rest) refl;
           over = over-of (p .rest) (pr .3) e;
-          place = rw z (ap (λ (v : units.Range). joinOf (s .prev) (rangeOf (v .base .0) l) 1 (followingOf (arenaIn h) ws s)) (p .here));
+          place = rw z (ap (λ (v : units.Range). joinOf (s .prev) (rangeOf (v .base .0) l) 1 (followingOf a ws s)) (p .here));
         }
       where
-        over-of : (rs : List Range) → Apart (suc (q .limit)) (limit h) rs → q .limit ≡ b → Over b rs
+        over-of : (rs : List Range) → Apart (suc (q .limit)) (a .limit .0) rs → q .limit ≡ b → Over b rs
         over-of [] a e = tt
         over-of (r ∷ rs) a e = omega arith
 
-    stand-at : Stand h ws y s
+    stand-at : Stand a ws c y s
     stand-at = by (eqb (q .limit) b) (λ t. stand-touching t) (λ t. stand-before t)
 
-  pub stand : Sought h ws (reachBase y) s → Stand h ws y s
-  stand k = go (reach b met) refl (rw (← k .kept) at (kept-reach (base h) (limit h) met (f .place .arena .above) (f .apart) (y .base)))
+  pub stand : Held a ws c (Aim.Reach (y .base)) s → Stand a ws c y s
+  stand k = go (reach b met) refl (rw (← k .kept) at (kept-reach (a .base .0) (a .limit .0) met (f .place .arena .above) (f .apart) (y .base)))
     where
-      go : (o : Option Range) → reach b met ≡ o → Placed met o s → Stand h ws y s
-      go none e p = stand-behind (reach-none b (base h) (limit h) met (f .apart) e) p
+      go : (o : Option Range) → reach b met ≡ o → Placed met o s → Stand a ws c y s
+      go none e p = stand-behind (reach-none b (a .base .0) (a .limit .0) met (f .apart) e) p
       go (some q) e p =
-          let r = reach-some b (base h) (limit h) (p .front) q (p .rest) (rw (p .split) at (f .apart)) (rw (p .split) at e) in
+          let r = reach-some b (a .base .0) (a .limit .0) (p .front) q (p .rest) (rw (p .split) at (f .apart)) (rw (p .split) at e) in
           stand-at q p (r .0) (r .1)

@@ -1,8 +1,8 @@
--- `ListLand::put` meets its contract. Assumes nothing.
-use Rattle.list_land.proofs.PlaceWays.{put-ways}
+-- `put` meets its contract. Assumes nothing.
+use Rattle.list_edits.proofs.EditWays.{put-ways}
 use borrow.Author.Needs.{needs}
-use Rattle.list_land.proofs.ListLand.put.Statement.{statement}
-use Rattle.list_land.proofs.ListLand.put.Tie as tie
+use Rattle.list_edits.proofs.put.Statement.{statement}
+use Rattle.list_edits.proofs.put.Tie as tie
 
 new-requires : tie.Need-new-requires
 new-requires c κs = search needs
@@ -22,9 +22,6 @@ sub-ranges c = search needs
 store-requires : tie.Need-store-requires
 store-requires c κs = search put-ways
 
-close-requires : tie.Need-close-requires
-close-requires c κs = search needs
-
 same-length : tie.Need-same-length
 same-length c = search needs
 
@@ -41,6 +38,5 @@ put-spec =
     add-ranges
     sub-ranges
     store-requires
-    close-requires
     same-length
     returns)

@@ -1,0 +1,124 @@
+-- The ways out of the edits of a chain: a place written, a range put in or refused, and a part taken out. Assumes nothing.
+use Prim.Native.Nat.{ℕ, _+_, _-_}
+use mathlib.Core.Bool.{true}
+use mathlib.Core.List.{List}
+use mathlib.Core.Path.{_≡_, refl, sym, ap, ap₂, _∙_}
+use native.Mathlib.Omega.{arith}
+use lib.ListN.{length}
+use Rattle.units.specs.Words.{rangeOf, one}
+use Rattle.units.specs.declared.Addr.{Addr}
+use Rattle.units.specs.declared.Range.{Range}
+use Rattle.units.specs.declared.Size.{Size}
+use Rattle.units.specs.declared.aims.Aim.{Aim}
+use Rattle.units.specs.declared.rules.Arena.{Arena}
+use Rattle.units.proofs.Facts.{GoodRange, range-facts}
+use Rattle.list_words.specs.declared.Chain.{Chain}
+use Rattle.list_words.specs.declared.Spot.{Spot}
+use Rattle.list_edits.specs.Chains.{metOf, Held, mayAsk, Holding, editedNumber, putOf, putWords, cutChain, cutWords}
+use Rattle.list_edits.specs.Edits.{EditRoom, storeHead, storeWords}
+use Rattle.list_edits.specs.Joins.{joinEdit, Putting, joinDone}
+use Rattle.list_edits.specs.Places.{Placing, placeNumber, placeOf}
+use Rattle.list_edits.specs.declared.Edited.{Edited}
+use Rattle.list_edits.specs.declared.Join.{Join}
+use Rattle.list_edits.specs.declared.Place.{Place}
+use Rattle.list_edits.proofs.Cutting.{cutEdit, held-cut}
+use Rattle.list_edits.proofs.Inserting.{insert-overlap, insert-clear, Landed, landed}
+use Rattle.list_edits.proofs.Sound.{Fine, fine}
+use Rattle.list_edits.proofs.Standing.{Stand, stand}
+
+-- A PLACE WRITTEN
+module _ (b : ℕ) (ws : List ℕ) (c : Chain) (y : Range) (j : Join) (v : Range) (ev : v ≡ rangeOf (j .fresh .limit .0) (j .fresh .limit .0)) where
+  put-same : record { prev = j .prev; low = j .fresh; high = v; next = j .next } ≡ joinEdit j
+  put-same = ap (λ (x : Range). record { prev = j .prev; low = j .fresh; high = x; next = j .next }) ev
+
+  pub put-room : Putting b (length ws) c y j → EditRoom b (length ws) (record { prev = j .prev; low = j .fresh; high = v; next = j .next })
+  put-room p = rw put-same (p .room)
+
+  pub put-chain : (z t : Size) → z .0 ≡ y .limit .0 - y .base .0 → t .0 ≡ c .bytes .0 + z .0 →
+      (hd : Addr) → hd ≡ storeHead (c .head) (record { prev = j .prev; low = j .fresh; high = v; next = j .next }) →
+      Edited.Done (record { head = hd; ranges = c .ranges + 1 - j .joins; bytes = t }) (j .fresh) ≡ joinDone c y j
+  put-chain z t ez et hd p =
+      let e : t .0 ≡ c .bytes .0 + (y .limit .0 - y .base .0) = et ∙ ap (λ (n : ℕ). c .bytes .0 + n) ez in
+      let g : hd ≡ storeHead (c .head) (joinEdit j) = p ∙ ap (storeHead (c .head)) put-same in
+      ap₂ (λ (x : Addr) (n : ℕ). Edited.Done (record { head = x; ranges = c .ranges + 1 - j .joins; bytes = record { 0 = n } }) (j .fresh)) g e
+
+  pub put-words : (ws' : List ℕ) → ws' ≡ storeWords b ws (record { prev = j .prev; low = j .fresh; high = v; next = j .next }) → ws' ≡ storeWords b ws (joinEdit j)
+  put-words ws' p = p ∙ ap (storeWords b ws) put-same
+
+pub ruleset put-ways = (put-room, put-chain, put-words)
+
+-- A RANGE PUT IN
+module _ (a : Arena) (ws : List ℕ) (c : Chain) (y : Range) (s : Spot) (k : Held a ws c (Aim.Reach (y .base)) s) (g : mayAsk a y ≡ true) where
+  fit : Fine a ws c
+  fit = fine a ws c (k .ready) (k .whole)
+
+  rules : GoodRange (a .base .0) (a .limit .0) (a .align .0) (y .base .0) (y .limit .0)
+  rules = range-facts (a .base .0) (a .limit .0) (a .align .0) (y .base .0) (y .limit .0) g
+
+  stands : Stand a ws c y s
+  stands = stand a ws c fit y s (rules .from) (rules .order) k
+
+  -- the spot after the one given can be read
+  pub put-placing : Placing a (length ws) y s
+  put-placing =
+      let r = rules in
+      let top = fit .place .arena .top in
+      record {
+        following = λ e. record {
+          ready = k .ready;
+          above = omega (arith, r .from);
+          small = omega (arith, r .order, r .upto, top);
+        };
+      }
+
+  module _ (p : Place) (ep : p ≡ placeOf a ws y s) where
+    pub put-refused : p ≡ Place.Overlap → (Edited.Refused ≡ putOf (metOf a ws c) y) × (ws ≡ putWords (metOf a ws c) y (a .base .0) ws)
+    unfolding putOf putWords
+    put-refused f = let o = insert-overlap a ws c fit y s rules stands (sym ep ∙ f) in (rw o, rw o)
+
+    module _ (j : Join) (f : p ≡ Place.Free j) where
+      done : Landed a ws c fit y s rules stands j (sym ep ∙ f)
+      done = landed a ws c fit y s rules stands j (sym ep ∙ f)
+
+      pub put-putting : Putting (a .base .0) (length ws) c y j
+      put-putting = done .ready
+
+      pub put-done : (w : Edited) (ws' : List ℕ) → (w ≡ joinDone c y j) × (ws' ≡ storeWords (a .base .0) ws (joinEdit j)) →
+          (w ≡ putOf (metOf a ws c) y) × (ws' ≡ putWords (metOf a ws c) y (a .base .0) ws)
+      unfolding putOf putWords
+      put-done w ws' q =
+          let o = insert-clear a ws c fit y s rules stands j (sym ep ∙ f) in
+          (rw o (q .0 ∙ done .gives), rw o (q .1 ∙ done .words))
+
+  -- the number of a place is the number of the edit
+  number-of : (p : Place) → p ≡ placeOf a ws y s → placeNumber p ≡ editedNumber (putOf (metOf a ws c) y)
+  number-of Place.Overlap ep = ap editedNumber (put-refused Place.Overlap ep refl .0)
+  number-of (Place.Free j) ep = ap editedNumber (put-done (Place.Free j) ep j refl (joinDone c y j) (storeWords (a .base .0) ws (joinEdit j)) (refl, refl) .0)
+
+  pub place-number : placeNumber (placeOf a ws y s) ≡ editedNumber (putOf (metOf a ws c) y)
+  place-number = number-of (placeOf a ws y s) refl
+
+-- A PART TAKEN OUT
+module _ (a : Arena) (ws : List ℕ) (c : Chain) (s : Spot) (y : Range) (k : Holding a ws c s y) (u v : Range)
+    (eu : u ≡ rangeOf (s .here .base .0) (y .base .0)) (ev : v ≡ rangeOf (y .limit .0) (s .here .limit .0)) where
+  cut-same : record { prev = s .prev; low = u; high = v; next = s .next } ≡ cutEdit s y
+  cut-same = ap₂ (λ (x z : Range). record { prev = s .prev; low = x; high = z; next = s .next }) eu ev
+
+  pub cut-room : EditRoom (a .base .0) (length ws) (record { prev = s .prev; low = u; high = v; next = s .next })
+  cut-room = rw cut-same (held-cut a ws c s y k .room)
+
+  pub cut-chain : (m n : ℕ) → m ≡ one u → n ≡ one v → (z t : Size) → z .0 ≡ y .limit .0 - y .base .0 → t .0 ≡ c .bytes .0 - z .0 →
+      (hd : Addr) → hd ≡ storeHead (c .head) (record { prev = s .prev; low = u; high = v; next = s .next }) →
+      record { head = hd; ranges = c .ranges - 1 + m + n; bytes = t } ≡ cutChain (metOf a ws c) y
+  cut-chain m n em en z t ez et hd p =
+      let d = held-cut a ws c s y k in
+      let b = et ∙ ap (λ (x : ℕ). c .bytes .0 - x) ez ∙ d .left in
+      let g = p ∙ ap (storeHead (c .head)) cut-same ∙ d .head in
+      let r = ap₂ (λ (x w : ℕ). c .ranges - 1 + x + w) (em ∙ ap one eu) (en ∙ ap one ev) ∙ d .ranges in
+      λ i. record { head = g i; ranges = r i; bytes = record { 0 = b i } }
+
+  pub cut-words : (ws' : List ℕ) → ws' ≡ storeWords (a .base .0) ws (record { prev = s .prev; low = u; high = v; next = s .next }) →
+      ws' ≡ cutWords (metOf a ws c) y (a .base .0) ws
+  cut-words ws' p = p ∙ ap (storeWords (a .base .0) ws) cut-same ∙ held-cut a ws c s y k .words
+
+pub ruleset cut-ways = (cut-room, cut-chain, cut-words)

@@ -1,0 +1,75 @@
+-- A range put into a sound list at a spot, and a part taken out of the range there: what the edits of a chain give. Assumes nothing.
+use Prim.Native.Nat.{ℕ, _%_, _≤_, _<_}
+use mathlib.Core.Bool.{Bool, true, cond}
+use mathlib.Core.List.{List}
+use mathlib.Core.Path.{_≡_}
+use lib.ListN.{length}
+use Rattle.units.specs.Rules.{rangeCheck, goodRange}
+use Rattle.units.specs.Words.{addr}
+use Rattle.units.specs.declared.Range as units
+use Rattle.units.specs.declared.aims.Aim.{Aim}
+use Rattle.units.specs.declared.rules.Arena.{Arena}
+use Rattle.model.specs.Marks.{Range, struct}
+use Rattle.model.specs.Lists.{total, overlaps, holder, insert-in, delete-from}
+use Rattle.list_words.specs.declared.Chain.{Chain}
+use Rattle.list_words.specs.declared.Spot.{Spot}
+use Rattle.list_words.specs.Words.{soundWalk}
+use Rattle.list_words.specs.Laying.{head-of, lay}
+use Rattle.list_words.specs.Surveys.{Ready, walkOf, kept-of}
+use Rattle.list_edits.specs.declared.Edited.{Edited}
+
+-- The ranges that the walk from the head meets.
+abbrev pub metOf : Arena → List ℕ → Chain → List Range
+metOf a ws c = walkOf a ws (c .head .0) .met
+
+-- A spot that an aim keeps of a sound list.
+pub record Held (a : Arena) (ws : List ℕ) (c : Chain) (aim : Aim) (s : Spot) : Type 0 where
+  pub ready : Ready a (length ws)
+  pub whole : soundWalk (walkOf a ws (c .head .0)) (c .ranges) (c .bytes .0) ≡ true
+  pub kept : s ≡ kept-of aim (metOf a ws c)
+
+-- The range keeps the rules of a request to the arena.
+abbrev pub mayAsk : Arena → units.Range → Bool
+mayAsk a y = goodRange (rangeCheck (a .base .0) (a .limit .0) (a .align .0) (y .base .0) (y .limit .0))
+
+-- The range at a spot of a sound list holds a part, which is not empty and is aligned.
+pub record Holding (a : Arena) (ws : List ℕ) (c : Chain) (s : Spot) (y : units.Range) : Type 0 where
+  pub aim : Aim
+  pub held : Held a ws c aim s
+  pub low : s .here .base .0 ≤ y .base .0
+  pub proper : y .base .0 < y .limit .0
+  pub high : y .limit .0 ≤ s .here .limit .0
+  pub base-aligned : y .base .0 % a .align .0 ≡ 0
+  pub limit-aligned : y .limit .0 % a .align .0 ≡ 0
+
+-- The chain of a list of ranges.
+abbrev pub chainOf : List Range → Chain
+chainOf rs = record { head = addr (head-of rs); ranges = length rs; bytes = record { 0 = total rs } }
+
+-- Document 01's number of each case: 1 where some byte is already free.
+abbrev pub editedNumber : Edited → ℕ
+editedNumber Edited.Refused = 1
+editedNumber (Edited.Done c r) = 0
+
+module _ (rs : List Range) (y : units.Range) where
+  -- A range put in: refused if it overlaps one; then the chain of the list with it, and the range that holds it.
+  abbrev pub joined : List Range
+  joined = insert-in (y .base .0) (y .limit .0) rs
+
+  unfoldable pub putOf : Edited
+  putOf =
+      cond (overlaps (y .base .0) (y .limit .0) rs) Edited.Refused
+      (Edited.Done (chainOf joined) (struct (holder (y .base .0) (y .limit .0) joined)))
+
+  unfoldable pub putWords : ℕ → List ℕ → List ℕ
+  putWords base ws = cond (overlaps (y .base .0) (y .limit .0) rs) ws (lay base joined ws)
+
+  -- A part taken out: the chain of the list without it.
+  abbrev pub remaining : List Range
+  remaining = delete-from (y .base .0) (y .limit .0) rs
+
+  abbrev pub cutChain : Chain
+  cutChain = chainOf remaining
+
+  abbrev pub cutWords : ℕ → List ℕ → List ℕ
+  cutWords base ws = lay base remaining ws
