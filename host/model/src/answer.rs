@@ -1,4 +1,4 @@
-//! Answer numbers, checked in the order 5, 6, 4, 1 or 2, 3.
+//! Answer numbers, checked in the order 5, 6, 4, 1 or 2, 3; of a pair 5, 6, 4, 1 or 2, 7.
 
 /// Accepted.
 pub const ACCEPTED: u64 = 0;
@@ -14,3 +14,5 @@ pub const REQUEST: u64 = 4;
 pub const SET_UP: u64 = 5;
 /// List or table not sound.
 pub const DAMAGED: u64 = 6;
+/// Delete on a pair: every byte is free, but no land holds all of them.
+pub const IN_BOTH: u64 = 7;

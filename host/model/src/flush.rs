@@ -24,7 +24,7 @@ pub struct Flushed {
 
 /// The arena of both lands and their isolated ranges, or the number of the refusal. A flush checks 5 for the list, 5
 /// for the block land, their difference, then 6 for each in that order.
-fn look(
+pub(crate) fn look(
     list: &ListHandle,
     words: &[u64],
     block: &BlockHandle,
@@ -40,35 +40,49 @@ fn look(
     Ok((from, listed, tabled))
 }
 
+/// A flush on the sets of the two lands.
+pub(crate) struct Moved {
+    /// The number of ranges moved.
+    pub number: usize,
+    /// The isolated ranges of the block land afterwards.
+    pub tabled: Vec<Range>,
+    /// The refusal that stopped it, or 0.
+    pub stop: u64,
+}
+
 /// Takes the list's ranges in address order, each out of the list and into the block land, until the list is empty or
-/// an insert is refused; that range stays in the list. Returns the number moved and the refusal that stopped it, or 0.
-/// The flush itself is then answered 0.
-pub fn flush(list: ListHandle, words: &mut [u64], block: BlockHandle, nodes: &mut [u64]) -> Flushed {
-    let (arena, listed, mut tabled) = match look(&list, words, &block, nodes) {
-        Ok(looked) => looked,
-        Err(answer) => return Flushed { list, block, answer, moved: 0, stop: 0 },
-    };
-    let room = Some(block::capacity(nodes));
-    let mut moved = 0;
-    let mut stop = ACCEPTED;
-    for range in &listed {
-        match set::step(&arena, room, &tabled, &Call::Insert(*range)) {
-            Ok(step) => tabled = step.after,
+/// an insert is refused; that range stays in the list.
+pub(crate) fn moved(arena: &Arena, capacity: u64, listed: &[Range], tabled: &[Range]) -> Moved {
+    let mut moved = Moved { number: 0, tabled: tabled.to_vec(), stop: ACCEPTED };
+    for range in listed {
+        match set::step(arena, Some(capacity), &moved.tabled, &Call::Insert(*range)) {
+            Ok(step) => moved.tabled = step.after,
             Err(refusal) => {
-                stop = refusal;
+                moved.stop = refusal;
                 break;
             }
         }
-        moved += 1;
+        moved.number += 1;
     }
-    let left = &listed[moved..];
+    moved
+}
+
+/// Moves the list's ranges into the block land. Returns the number moved and the refusal that stopped it, or 0. The
+/// flush itself is then answered 0.
+pub fn flush(list: ListHandle, words: &mut [u64], block: BlockHandle, nodes: &mut [u64]) -> Flushed {
+    let (arena, listed, tabled) = match look(&list, words, &block, nodes) {
+        Ok(looked) => looked,
+        Err(answer) => return Flushed { list, block, answer, moved: 0, stop: 0 },
+    };
+    let Moved { number, tabled, stop } = moved(&arena, block::capacity(nodes), &listed, &tabled);
+    let left = &listed[number..];
     list::write(&arena, left, words);
     block::write(&tabled, nodes);
     Flushed {
         list: ListHandle::of(&arena, left),
         block: BlockHandle::of(&arena, &tabled),
         answer: ACCEPTED,
-        moved: moved as u64,
+        moved: number as u64,
         stop,
     }
 }

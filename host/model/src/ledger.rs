@@ -20,7 +20,7 @@ pub struct Entry {
 
 impl Entry {
     /// A refused step returns ranges (0, 0).
-    fn refused(answer: u64) -> Entry {
+    pub(crate) fn refused(answer: u64) -> Entry {
         Entry { answer, ..Entry::default() }
     }
 }

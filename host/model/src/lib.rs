@@ -1,7 +1,7 @@
-//! A model of document 01: what every call on a list land or a block land answers, returns and leaves in the lent
-//! words.
+//! A model of document 01 and of request K4: what every call on a list land, a block land or a pair of them answers,
+//! returns and leaves in the lent words.
 //!
-//! It is written from the paper alone and in the paper's order, and it works the plain way: the words are read as a set
+//! It is written from the papers alone and in their order, and it works the plain way: the words are read as a set
 //! of ranges or found not sound, the call is done on the set, and the words of the set are written. Every function is
 //! total: every handle, every memory and every number has a result.
 //!
@@ -11,6 +11,7 @@
 //! * [`set`]: the calls on a set of isolated ranges, and their order of checks
 //! * [`flush`]: the flush
 //! * [`ledger`]: the ledger of demand 3
+//! * [`pair`]: request K4, the pair that takes over, and its ledger
 //!
 //! ```
 //! use limbegoru_model::{list, Call, Range};
@@ -34,6 +35,7 @@ pub mod call;
 pub mod flush;
 pub mod ledger;
 pub mod list;
+pub mod pair;
 pub mod set;
 
 pub use arena::{Arena, Range};
@@ -42,3 +44,5 @@ pub use call::{Call, Done, Find, Opened};
 pub use flush::Flushed;
 pub use ledger::Ledger;
 pub use list::ListHandle;
+pub use pair::ledger::PairLedger;
+pub use pair::Pair;

@@ -36,18 +36,18 @@ pub fn bytes(ranges: &[Range]) -> u64 {
 }
 
 /// How many bytes of the range are free.
-fn free_in(set: &[Range], range: Range) -> u64 {
+pub(crate) fn free_in(set: &[Range], range: Range) -> u64 {
     set.iter().map(|free| free.common(range).length()).sum()
 }
 
 /// The isolated range that contains the range.
-fn containing(set: &[Range], range: Range) -> Range {
+pub(crate) fn containing(set: &[Range], range: Range) -> Range {
     let contains = |free: &&Range| free.base <= range.base && range.limit <= free.limit;
     *set.iter().find(contains).expect("free bytes side by side are in one isolated range")
 }
 
 /// The set without the bytes of the range.
-fn without(set: &[Range], range: Range) -> Vec<Range> {
+pub(crate) fn without(set: &[Range], range: Range) -> Vec<Range> {
     let below = |free: &Range| Range::new(free.base, free.limit.min(range.base));
     let above = |free: &Range| Range::new(free.base.max(range.limit), free.limit);
     let rest = set.iter().flat_map(|free| [below(free), above(free)]);
