@@ -96,7 +96,7 @@ impl ListLand {
     }
 
     // The chain of the handle.
-    pub(crate) fn chain(self) -> Chain
+    pub fn chain(self) -> Chain
         ensures { λ r. ⌜ r ≡ chainIn self ⌝ }
     {
         let head = self.head;

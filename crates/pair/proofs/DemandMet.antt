@@ -3,6 +3,7 @@ use Prim.Native.Nat.{ℕ}
 use mathlib.Core.List.{List, []}
 use mathlib.Core.Path.{_≡_, refl}
 use native.Mathlib.Omega.{arith}
+use borrow.Author.Tests.{eq-eqb}
 use Rattle.model.specs.Layouts.{holding}
 use Rattle.list_land.specs.Layout as list
 use Rattle.list_land.specs.Calls as list-calls
@@ -28,6 +29,8 @@ opened-demand-3 b l a ws vs e f cs os t =
     let i = block-calls.newLand b l a in
     let x : list.layout .read h ws ≡ holding [] = read-laid h ws [] (placed h ws (g .0)) (g .0) tt tt tt in
     let y : block.layout .read i (fill [] vs) ≡ holding [] = read-filled i vs [] (k .good) tt tt (omega arith) in
+    let both-read : pair-read list.layout block.layout (both h i) (both ws (fill [] vs)) ≡ holding (both [] []) =
+    rw (x, y, eq-eqb b b refl, eq-eqb l l refl, eq-eqb a a refl) in
     rw (length-fill [] vs) at
-    (pair-demand-3 list.layout list-laws block.layout block-laws (λ p w. refl) (both h i) (both ws (fill [] vs)) (both [] []) ? cs os
+    (pair-demand-3 list.layout list-laws block.layout block-laws (λ p w. refl) (both h i) (both ws (fill [] vs)) (both [] []) both-read cs os
     (rw (g .1, k .land, k .words) at t))

@@ -12,7 +12,8 @@ use units::Range;
 use units::SetUp;
 ghost use mathlib.Core.Path.{_≡_};
 ghost use Rattle.pair.specs.Calls.{refusedBy, foundNone};
-ghost use Rattle.pair.specs.Parts.{checkOf};
+ghost use Rattle.units.specs.Rules.{setUpOf};
+ghost use Rattle.pair.specs.Parts.{setUp, checkOf};
 
 // The handles of both lands.
 #[repr(C)]
@@ -68,31 +69,43 @@ fn none_found(pair: Pair, answer: u64) -> Found
 }
 
 impl Pair {
-    // The checks of a call, in their order: the set-up of the list, of the block land, one arena for both, a sound list, a
-    // sound table, no byte in both.
-    fn check(self, words: &[u64], nodes: &[u64], aim: Aim) -> PairCheck
-        ensures { λ r. ⌜ r ≡ checkOf self (now (words .entry)) (now (nodes .entry)) aim ⌝ }
+    // Whether the set-up of the list is good, that of the block land, and their arenas are one.
+    fn set_up(self, words: &[u64], nodes: &[u64]) -> SetUp
+        ensures { λ r. ⌜ r ≡ setUpOf (setUp self (now (words .entry)) (now (nodes .entry))) ⌝ }
     {
         let list = self.list;
         let block = self.block;
         let SetUp::Good = list.set_up(words) else {
-            return PairCheck::BadSetUp;
+            return SetUp::Bad;
         };
         let SetUp::Good = block.set_up(nodes) else {
+            return SetUp::Bad;
+        };
+        if flush::same_arena(list, block) {
+            SetUp::Good
+        } else {
+            SetUp::Bad
+        }
+    }
+
+    // The checks of a call, in their order: the set-up, a sound list, a sound table, no byte in both.
+    fn check(self, words: &[u64], nodes: &[u64], aim: Aim) -> PairCheck
+        ensures { λ r. ⌜ r ≡ checkOf self (now (words .entry)) (now (nodes .entry)) aim ⌝ }
+    {
+        let SetUp::Good = self.set_up(words, nodes) else {
             return PairCheck::BadSetUp;
         };
-        if !flush::same_arena(list, block) {
-            return PairCheck::BadSetUp;
-        }
-        let list_land::Look::Sound(s) = list.look(words, aim) else {
+        let list = self.list;
+        let list_land::Look::Sound(spot) = list.look(words, aim) else {
             return PairCheck::Damaged;
         };
-        let block_land::Look::Sound(e) = block.look(nodes, aim) else {
+        let block = self.block;
+        let block_land::Look::Sound(entry) = block.look(nodes, aim) else {
             return PairCheck::Damaged;
         };
         if pair_words::overlap(list.arena(), words, list.head, nodes, block.ranges) {
             return PairCheck::Damaged;
         }
-        PairCheck::Good(s, e)
+        PairCheck::Good(spot, entry)
     }
 }

@@ -1,0 +1,179 @@
+-- What a call of a pair equals, by the way it takes: 5 or 6, a refused step, an accepted step. Assumes nothing.
+use Prim.Native.Nat.{ℕ}
+use mathlib.Core.Bool.{Bool, true, false, not, cond, _&&_}
+use mathlib.Core.List.{List}
+use mathlib.Core.Path.{_≡_, refl, sym, ap, _∙_}
+use native.Mathlib.Omega.{arith}
+use lib.Dec.{eqb}
+use borrow.Author.Tests.{not-true, not-false}
+use Rattle.units.specs.declared.aims.Aim.{Aim}
+use Rattle.units.proofs.Tests.{by, and-left, and-right}
+use Rattle.model.specs.Calls.{refused, accepted}
+use Rattle.model.specs.Layouts.{Reading, fault, holding}
+use Rattle.model.specs.Marks.{Range}
+use Rattle.list_words.specs.Laying.{lay}
+use Rattle.list_words.specs.Surveys.{kept-of}
+use Rattle.list_words.specs.declared.Spot.{Spot}
+use Rattle.list_land.specs.Layout as list
+use Rattle.list_land.specs.Parts.{Sought}
+use Rattle.list_land.proofs.LayoutLaws as list-laws
+use Rattle.block_words.specs.Words.{fill}
+use Rattle.block_words.specs.Surveys.{entryOf}
+use Rattle.block_words.specs.declared.Entry.{Entry}
+use Rattle.block_land.specs.Layout as block
+use Rattle.block_land.specs.Parts.{Aimed}
+use Rattle.block_land.proofs.LayoutLaws as block-laws
+use Rattle.flush.specs.Flush.{sameArena}
+use Rattle.flush.specs.Flush as flush-check
+use Rattle.flush.specs.declared.FlushCheck.{FlushCheck}
+use Rattle.pair_model.specs.Pairs.{Both, both, PairCall, Sets, keep, pair-step}
+use Rattle.pair_model.specs.PairLayouts.{meet, pair-read}
+use Rattle.pair.specs.Calls.{lands, PairDone, called, changed, foundOf, refusedBy, foundNone}
+use Rattle.pair.specs.Parts.{setUp, sound, checkOf, Checked}
+use Rattle.pair.specs.declared.Changed.{Changed}
+use Rattle.pair.specs.declared.Found.{Found}
+use Rattle.pair.specs.declared.Pair.{Pair}
+use Rattle.pair.specs.declared.PairCheck.{PairCheck}
+use Rattle.pair.proofs.Checking.{list-up, block-up, flush-good}
+
+module _ (p : Pair) (ws vs : List ℕ) where
+  abbrev rs : List Range
+  rs = list.walkOf (p .list) ws .met
+
+  abbrev qs : List Range
+  qs = block.tableOf (p .block) vs
+
+  abbrev reads : Reading Sets
+  reads = pair-read list.layout block.layout (lands p) (both ws vs)
+
+  -- 5
+  pub reads-5 : setUp p ws vs ≡ false → reads ≡ fault 5
+  reads-5 g =
+      by (list.setUp (p .list) ws)
+      (λ a. by (block.setUp (p .block) vs)
+      (λ b. let c : sameArena (p .list) (p .block) ≡ false = rw (a, b) at g in differ a b c)
+      (λ b. let l = list-read a in l (list.sound (p .list) ws) refl b))
+      (λ a. rw (list-laws.reads-5 (p .list) ws a))
+    where
+      differ : list.setUp (p .list) ws ≡ true → block.setUp (p .block) vs ≡ true → sameArena (p .list) (p .block) ≡ false → reads ≡ fault 5
+      differ a b c =
+          by (list.sound (p .list) ws)
+          (λ s. by (block.sound (p .block) vs)
+          (λ t. rw (list-laws.held (p .list) ws a s, block-laws.held (p .block) vs b t, c))
+          (λ t. rw (list-laws.held (p .list) ws a s, block-laws.reads-6 (p .block) vs b t, c)))
+          (λ s. by (block.sound (p .block) vs)
+          (λ t. rw (list-laws.reads-6 (p .list) ws a s, block-laws.held (p .block) vs b t, c))
+          (λ t. rw (list-laws.reads-6 (p .list) ws a s, block-laws.reads-6 (p .block) vs b t, c)))
+
+      list-read : list.setUp (p .list) ws ≡ true → (s : Bool) → list.sound (p .list) ws ≡ s → block.setUp (p .block) vs ≡ false → reads ≡ fault 5
+      list-read a true e b = rw (list-laws.held (p .list) ws a e, block-laws.reads-5 (p .block) vs b)
+      list-read a false e b = rw (list-laws.reads-6 (p .list) ws a e, block-laws.reads-5 (p .block) vs b)
+
+  module _ (g : setUp p ws vs ≡ true) where
+    same : sameArena (p .list) (p .block) ≡ true
+    same = and-right (block.setUp (p .block) vs) (sameArena (p .list) (p .block)) (and-right (list.setUp (p .list) ws) _ g)
+
+    -- 6
+    pub reads-6 : sound p ws vs ≡ false → reads ≡ fault 6
+    reads-6 n =
+        by (list.sound (p .list) ws)
+        (λ s. by (block.sound (p .block) vs)
+        (λ t. let m : not (meet rs qs) ≡ false = rw (s, t) at n in
+        rw (list-laws.held (p .list) ws (list-up p ws vs g) s, block-laws.held (p .block) vs (block-up p ws vs g) t, same, not-false (meet rs qs) m))
+        (λ t. rw (list-laws.held (p .list) ws (list-up p ws vs g) s, block-laws.reads-6 (p .block) vs (block-up p ws vs g) t, same)))
+        (λ s. by (block.sound (p .block) vs)
+        (λ t. rw (list-laws.reads-6 (p .list) ws (list-up p ws vs g) s, block-laws.held (p .block) vs (block-up p ws vs g) t, same))
+        (λ t. rw (list-laws.reads-6 (p .list) ws (list-up p ws vs g) s, block-laws.reads-6 (p .block) vs (block-up p ws vs g) t, same)))
+
+    pub reads-both : sound p ws vs ≡ true → reads ≡ holding (both rs qs)
+    reads-both n =
+        let s = and-left (list.sound (p .list) ws) _ n in
+        let r = and-right (list.sound (p .list) ws) _ n in
+        let t = and-left (block.sound (p .block) vs) _ r in
+        let m = not-true (meet rs qs) (and-right (block.sound (p .block) vs) _ r) in
+        rw (list-laws.held (p .list) ws (list-up p ws vs g) s, block-laws.held (p .block) vs (block-up p ws vs g) t, same, m)
+
+-- WHAT A CHECK SAYS
+module _ (p : Pair) (ws vs : List ℕ) (aim : Aim) where
+  abbrev spot : Spot
+  spot = kept-of aim (list.walkOf (p .list) ws .met)
+
+  abbrev entry : Entry
+  entry = entryOf aim (block.tableOf (p .block) vs)
+
+  bad : (g t : Bool) (v : PairCheck) → v ≡ cond g (cond t (PairCheck.Good spot entry) PairCheck.Damaged) PairCheck.BadSetUp → v ≡ PairCheck.BadSetUp → g ≡ false
+  bad false t v e f = refl
+  bad true false v e f = let z : _≡_ {A = ℕ} 0 1 = cc in absurd (omega arith)
+  bad true true v e f = let z : _≡_ {A = ℕ} 0 1 = cc in absurd (omega arith)
+
+  damaged : (g t : Bool) (v : PairCheck) → v ≡ cond g (cond t (PairCheck.Good spot entry) PairCheck.Damaged) PairCheck.BadSetUp → v ≡ PairCheck.Damaged → (g ≡ true) × (t ≡ false)
+  damaged false t v e f = let z : _≡_ {A = ℕ} 0 1 = cc in absurd (omega arith)
+  damaged true false v e f = (refl, refl)
+  damaged true true v e f = let z : _≡_ {A = ℕ} 0 1 = cc in absurd (omega arith)
+
+  whole : (g t : Bool) (v : PairCheck) → v ≡ cond g (cond t (PairCheck.Good spot entry) PairCheck.Damaged) PairCheck.BadSetUp → (s : Spot) (e : Entry) → v ≡ PairCheck.Good s e →
+      (g ≡ true) × (t ≡ true) × (s ≡ spot) × (e ≡ entry)
+  whole false t v d s e f = let z : _≡_ {A = ℕ} 0 1 = cc in absurd (omega arith)
+  whole true false v d s e f = let z : _≡_ {A = ℕ} 0 1 = cc in absurd (omega arith)
+  whole true true v d s e f = (refl, refl, cc, cc)
+
+  module _ (v : PairCheck) (ev : v ≡ checkOf p ws vs aim) where
+    pub saw-checked : (s : Spot) (e : Entry) → v ≡ PairCheck.Good s e → Checked p ws vs aim s e
+    unfolding checkOf
+    saw-checked s e f = let w = whole (setUp p ws vs) (sound p ws vs) v ev s e f in record { good = w .0; whole = w .1; spot = w .2; entry = w .3 }
+
+    -- 5 and 6, of any call
+    pub answers-5 : (c : PairCall) → v ≡ PairCheck.BadSetUp → called c p ws vs ≡ record { out = refused 5; handle = lands p; words = both ws vs }
+    unfolding checkOf
+    answers-5 c f = rw (reads-5 p ws vs (bad (setUp p ws vs) (sound p ws vs) v ev f))
+
+    pub answers-6 : (c : PairCall) → v ≡ PairCheck.Damaged → called c p ws vs ≡ record { out = refused 6; handle = lands p; words = both ws vs }
+    unfolding checkOf
+    answers-6 c f = let w = damaged (setUp p ws vs) (sound p ws vs) v ev f in rw (reads-6 p ws vs (w .0) (w .1))
+
+-- A PAIR THAT WAS CHECKED
+module _ (p : Pair) (ws vs : List ℕ) (aim : Aim) (s : Spot) (e : Entry) (k : Checked p ws vs aim s e) where
+  rest : (block.sound (p .block) vs && not (meet (list.walkOf (p .list) ws .met) (block.tableOf (p .block) vs))) ≡ true
+  rest = and-right (list.sound (p .list) ws) _ (k .whole)
+
+  list-sound : list.sound (p .list) ws ≡ true
+  list-sound = and-left (list.sound (p .list) ws) _ (k .whole)
+
+  block-sound : block.sound (p .block) vs ≡ true
+  block-sound = and-left (block.sound (p .block) vs) _ rest
+
+  pub apart : meet (list.walkOf (p .list) ws .met) (block.tableOf (p .block) vs) ≡ false
+  apart = not-true (meet (list.walkOf (p .list) ws .met) (block.tableOf (p .block) vs)) (and-right (block.sound (p .block) vs) _ rest)
+
+  pub list-sought : Sought (p .list) ws aim s
+  list-sought = record { good = list-up p ws vs (k .good); whole = list-sound; kept = k .spot }
+
+  pub block-aimed : Aimed (p .block) vs aim e
+  block-aimed = record { good = block-up p ws vs (k .good); whole = block-sound; kept = k .entry }
+
+  pub flush-checked : flush-check.checkOf (p .list) ws (p .block) vs ≡ FlushCheck.Good
+  flush-checked = flush-good p ws vs (k .good) list-sound block-sound
+
+  -- a refused step, and an accepted one
+  pub refuses : (c : PairCall) (n : ℕ) → eqb n 0 ≡ false →
+      pair-step (block.arenaOf (p .block) vs) c (both (list.walkOf (p .list) ws .met) (block.tableOf (p .block) vs))
+      ≡ keep n (both (list.walkOf (p .list) ws .met) (block.tableOf (p .block) vs)) →
+      called c p ws vs ≡ record { out = refused n; handle = lands p; words = both ws vs }
+  refuses c n z d = rw (reads-both p ws vs (k .good) (k .whole), d, z)
+
+  pub accepts : (c : PairCall) (f r : Range) (rs' qs' : List Range) →
+      pair-step (block.arenaOf (p .block) vs) c (both (list.walkOf (p .list) ws .met) (block.tableOf (p .block) vs)) ≡ record { out = accepted f r; next = both rs' qs' } →
+      called c p ws vs ≡ record {
+        out = accepted f r;
+        handle = both (list.closed (p .list) rs') (block.closed (p .block) qs');
+        words = both (lay (list.base (p .list)) rs' ws) (fill qs' vs);
+      }
+  accepts c f r rs' qs' d = rw (reads-both p ws vs (k .good) (k .whole), d)
+
+-- a refusal hands back the handles and the words
+module _ (p : Pair) (ws vs : List ℕ) (d : PairDone) (n : ℕ) (e : d ≡ record { out = refused n; handle = lands p; words = both ws vs }) where
+  pub refuse-change : (w : Changed) → w ≡ refusedBy p n → (ws' vs' : List ℕ) → ws' ≡ ws → vs' ≡ vs → (w ≡ changed d) × (ws' ≡ d .words .list) × (vs' ≡ d .words .block)
+  refuse-change w ew ws' vs' f g = (rw e ew, rw e f, rw e g)
+
+  pub refuse-find : (w : Found) → w ≡ foundNone p n → (ws' vs' : List ℕ) → ws' ≡ ws → vs' ≡ vs → (w ≡ foundOf d) × (ws' ≡ d .words .list) × (vs' ≡ d .words .block)
+  refuse-find w ew ws' vs' f g = (rw e ew, rw e f, rw e g)
