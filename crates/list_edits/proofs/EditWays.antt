@@ -1,6 +1,6 @@
 -- The ways out of the edits of a chain: a place written, a range put in or refused, and a part taken out. Assumes nothing.
 use Prim.Native.Nat.{ℕ, _+_, _-_}
-use mathlib.Core.Bool.{true}
+use mathlib.Core.Bool.{true, false}
 use mathlib.Core.List.{List}
 use mathlib.Core.Path.{_≡_, refl, sym, ap, ap₂, _∙_}
 use native.Mathlib.Omega.{arith}
@@ -12,6 +12,7 @@ use Rattle.units.specs.declared.Size.{Size}
 use Rattle.units.specs.declared.aims.Aim.{Aim}
 use Rattle.units.specs.declared.rules.Arena.{Arena}
 use Rattle.units.proofs.Facts.{GoodRange, range-facts}
+use Rattle.model.specs.Lists.{overlaps}
 use Rattle.list_words.specs.declared.Chain.{Chain}
 use Rattle.list_words.specs.declared.Spot.{Spot}
 use Rattle.list_edits.specs.Chains.{metOf, Held, mayAsk, Holding, editedNumber, putOf, putWords, cutChain, cutWords}
@@ -72,6 +73,12 @@ module _ (a : Arena) (ws : List ℕ) (c : Chain) (y : Range) (s : Spot) (k : Hel
       }
 
   module _ (p : Place) (ep : p ≡ placeOf a ws y s) where
+    pub at-overlap : p ≡ Place.Overlap → true ≡ overlaps (y .base .0) (y .limit .0) (metOf a ws c)
+    at-overlap f = sym (insert-overlap a ws c fit y s rules stands (sym ep ∙ f))
+
+    pub at-free : (j : Join) → p ≡ Place.Free j → false ≡ overlaps (y .base .0) (y .limit .0) (metOf a ws c)
+    at-free j f = sym (insert-clear a ws c fit y s rules stands j (sym ep ∙ f))
+
     pub put-refused : p ≡ Place.Overlap → (Edited.Refused ≡ putOf (metOf a ws c) y) × (ws ≡ putWords (metOf a ws c) y (a .base .0) ws)
     unfolding putOf putWords
     put-refused f = let o = insert-overlap a ws c fit y s rules stands (sym ep ∙ f) in (rw o, rw o)

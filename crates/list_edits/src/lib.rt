@@ -13,6 +13,7 @@ ghost use mathlib.Core.Bool.{true};
 ghost use mathlib.Core.Path.{_≡_};
 ghost use lib.ListN.{length};
 ghost use Rattle.model.specs.Marks.{rng};
+ghost use Rattle.model.specs.Lists.{overlaps};
 ghost use Rattle.units.specs.declared.aims.Aim.{Aim};
 ghost use Rattle.list_words.specs.Laying.{describe};
 ghost use Rattle.list_edits.specs.Edits.{Room, PieceRoom, pieceHead, pieceWords, EditRoom, storeHead, storeWords};
@@ -130,6 +131,18 @@ pub fn put_at(arena: Arena, words: &mut [u64], chain: Chain, range: Range, spot:
     };
     let place = p;
     put(words, arena.base, chain, range, place)
+}
+
+// Whether a range overlaps one of a sound list, by the first range that reaches its base.
+pub fn overlaps_at(arena: Arena, words: &[u64], chain: Chain, range: Range, spot: Spot) -> bool
+    requires { ⌜ Held arena (now words) chain (Aim.Reach (range .base)) spot ⌝ }
+    requires { ⌜ mayAsk arena range ≡ true ⌝ }
+    ensures { λ r. ⌜ r ≡ overlaps (range .base .0) (range .limit .0) (metOf arena (now (words .entry)) chain) ⌝ }
+{
+    match placing::place(arena, words, range, spot) {
+        Place::Overlap => true,
+        Place::Free(_) => false,
+    }
 }
 
 // Takes a part out of the range at a spot of a sound list, and hands back the chain of what is left.

@@ -2,3 +2,4 @@ pub mod Meets
 pub mod Walking
 pub mod Merging
 pub mod Sharing
+pub mod Leaving

@@ -120,8 +120,8 @@ module _ (a : units.Arena) (ws : List ℕ) where
           pub end-is : e .0 ≡ first .r .limit
           end-is = ap (λ (y : Addr). y .0) (both .0)
 
-          next-is : x .0 ≡ head-of (first .rs)
-          next-is = ap (λ (y : Addr). y .0) (both .1)
+          pub next-head : x .0 ≡ head-of (first .rs)
+          next-head = ap (λ (y : Addr). y .0) (both .1)
 
           pub coming-next : Coming a ws low x
           coming-next =
@@ -133,7 +133,7 @@ module _ (a : units.Arena) (ws : List ℕ) where
                 arena = c .arena;
                 lowest = c .lowest;
                 rest = first .rs;
-                is = next-is;
+                is = next-head;
                 laid = d .1;
                 apart = apart-from (suc (first .r .limit)) (a .base .0) (a .limit .0) (first .rs) (omega arith) (p .3);
                 aligned = q .2;
@@ -148,4 +148,4 @@ module _ (a : units.Arena) (ws : List ℕ) where
           nearer (q ∷ qs) p y h = let o = first-apart in rw (h, ne-eqb (q .base) 0 (λ t. omega arith)) (omega arith)
 
           pub coming-less : left-over (a .limit .0) x < left-over (a .limit .0) at
-          coming-less = rw (z, at-first) (nearer (first .rs) (first-apart .3) (x .0) next-is)
+          coming-less = rw (z, at-first) (nearer (first .rs) (first-apart .3) (x .0) next-head)

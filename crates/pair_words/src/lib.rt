@@ -3,6 +3,7 @@
 // Every function here is proved, and the crate assumes nothing of its own. These are inner functions: a `requires`
 // says what the calls of a pair have checked before.
 use list_words::Met;
+use list_words::Spot;
 use units::Addr;
 use units::Arena;
 use units::Range;
@@ -10,12 +11,14 @@ use units::Size;
 ghost use mathlib.Core.Bool.{cond};
 ghost use mathlib.Core.Path.{_≡_};
 ghost use lib.Dec.{leb};
-ghost use Rattle.list_words.specs.Surveys.{walkOf};
+ghost use Rattle.units.specs.declared.aims.Aim.{Aim};
+ghost use Rattle.list_words.specs.Surveys.{walkOf, kept-of};
 ghost use Rattle.block_words.specs.Words.{pairs};
 ghost use Rattle.transfers.specs.Transfers.{Going};
 ghost use Rattle.pair_model.specs.Pairs.{inside};
 ghost use Rattle.pair_model.specs.PairLayouts.{meet};
 ghost use Rattle.pair_words.specs.Shares.{share, Listed, Tabled};
+ghost use Rattle.pair_words.specs.Lefts.{Left};
 
 // Whether some range of a sound list overlaps one of a sound table. Both are gone through once, in address order.
 pub fn overlap(arena: Arena, words: &[u64], head: Addr, nodes: &[u64], count: u64) -> bool
@@ -109,4 +112,28 @@ pub fn table_share(nodes: &[u64], count: u64, range: Range) -> Size
         sum = sum.plus(common(range, here));
     }
     sum
+}
+
+// The first range that reaches an address in what is left of a sound list from `head` on, where `spot` is that of the whole.
+pub fn spot_left(arena: Arena, words: &[u64], head: Addr, base: Addr, spot: Spot) -> Spot
+    requires { ⌜ Left arena (now words) head base spot ⌝ }
+    ensures { λ r. ⌜ r ≡ kept-of (Aim.Reach base) (walkOf arena (now (words .entry)) (head .0) .met) ⌝ }
+{
+    let prev = Range::none();
+    if head.is_zero() {
+        return Spot {
+            prev,
+            here: Range::none(),
+            next: head,
+        };
+    }
+    let low = arena.base;
+    let Met::Found(end, next) = list_words::step(arena, words, low, head) else {
+        return spot;
+    };
+    if base.le(end) {
+        let here = Range::new(head, end);
+        return Spot { prev, here, next };
+    }
+    spot
 }

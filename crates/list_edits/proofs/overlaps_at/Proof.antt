@@ -1,0 +1,23 @@
+-- `overlaps_at` meets its contract: the place of the range. Assumes nothing.
+use Rattle.list_edits.proofs.EditWays.{put-placing, at-overlap, at-free}
+use borrow.Author.Needs.{needs}
+use Rattle.list_edits.proofs.overlaps_at.Statement.{statement}
+use Rattle.list_edits.proofs.overlaps_at.Tie as tie
+
+place-requires : tie.Need-place-requires
+place-requires c κs = search put-placing
+
+enum-told : tie.Need-enum-told
+enum-told c = search needs
+
+enum-told-2 : tie.Need-enum-told-2
+enum-told-2 c = search needs
+
+returns : tie.Need-returns
+returns c = search (at-overlap, at-free)
+
+returns-2 : tie.Need-returns-2
+returns-2 c = search (at-overlap, at-free)
+
+pub overlaps-at-spec : {M : Type 1} → statement M
+overlaps-at-spec = tie.close (tie.spec place-requires enum-told enum-told-2 returns returns-2)

@@ -1,0 +1,82 @@
+-- What the inner functions of insert give. Assumes nothing.
+use Prim.Native.Nat.{ℕ, _≤_, _<_}
+use mathlib.Core.Bool.{Bool, true, false, cond}
+use mathlib.Core.List.{List}
+use mathlib.Core.Path.{_≡_}
+use lib.Dec.{leb}
+use lib.ListN.{length}
+use Rattle.units.specs.declared.Range as units
+use Rattle.model.specs.Marks.{Range, struct}
+use Rattle.model.specs.Lists.{overlaps, holder, insert-in}
+use Rattle.list_words.specs.Laying.{lay}
+use Rattle.list_words.specs.declared.Spot.{Spot}
+use Rattle.list_land.specs.Layout as list
+use Rattle.list_land.specs.Parts as list-parts
+use Rattle.list_edits.specs.Chains.{mayAsk}
+use Rattle.block_words.specs.Words.{capacity, fill}
+use Rattle.block_land.specs.Layout as block
+use Rattle.flush.specs.Flush.{flushed}
+use Rattle.pair_words.specs.Lefts.{Left}
+use Rattle.pair.specs.declared.Changed.{Changed}
+use Rattle.pair.specs.declared.Pair.{Pair}
+
+-- The handles after a flush.
+abbrev pub flushedPair : Pair → List ℕ → List ℕ → Pair
+flushedPair p ws vs = record { list = flushed (p .list) ws (p .block) vs .result .list; block = flushed (p .list) ws (p .block) vs .result .block }
+
+module _ (p : Pair) (ws : List ℕ) (y : units.Range) where
+  -- The ranges of the list with the range in it.
+  abbrev pub listed : List Range
+  listed = insert-in (y .base .0) (y .limit .0) (list.walkOf (p .list) ws .met)
+
+  abbrev pub enterList : Changed
+  enterList = record {
+    pair = record { list = list.closed (p .list) listed; block = p .block };
+    answer = 0;
+    range = struct (holder (y .base .0) (y .limit .0) listed);
+  }
+
+  abbrev pub enterWords : List ℕ
+  enterWords = lay (list.base (p .list)) listed ws
+
+  -- A sound list that has no byte of the range, and a spot of a list of which it is the rest.
+  pub record Roomless (s : Spot) : Type 0 where
+    pub good : list.setUp (p .list) ws ≡ true
+    pub whole : list.sound (p .list) ws ≡ true
+    pub asked : mayAsk (list-parts.arenaIn (p .list)) y ≡ true
+    pub clear : overlaps (y .base .0) (y .limit .0) (list.walkOf (p .list) ws .met) ≡ false
+    pub left : Left (list-parts.arenaIn (p .list)) ws (p .list .head) (y .base) s
+
+module _ (p : Pair) (vs : List ℕ) (y : units.Range) where
+  -- The ranges of the block land with the range in it, and whether it has room for them.
+  abbrev pub blocked : List Range
+  blocked = insert-in (y .base .0) (y .limit .0) (block.tableOf (p .block) vs)
+
+  abbrev pub roomy : Bool
+  roomy = leb (length blocked) (capacity vs)
+
+  abbrev pub enterBlock : Changed
+  enterBlock = record {
+    pair = record { list = p .list; block = block.closed (p .block) blocked };
+    answer = 0;
+    range = struct (holder (y .base .0) (y .limit .0) blocked);
+  }
+
+  abbrev pub enteredNodes : List ℕ
+  enteredNodes = cond roomy (fill blocked vs) vs
+
+module _ (p : Pair) (ws vs : List ℕ) (y : units.Range) where
+  abbrev pub entered : Changed
+  entered = cond (roomy p vs y) (enterBlock p vs y) (enterList p ws y)
+
+  abbrev pub enteredWords : List ℕ
+  enteredWords = cond (roomy p vs y) ws (enterWords p ws y)
+
+  -- The same of both lands.
+  pub record Open (s : Spot) : Type 0 where
+    pub in-list : Roomless p ws y s
+    pub good : block.setUp (p .block) vs ≡ true
+    pub whole : block.sound (p .block) vs ≡ true
+    pub proper : y .base .0 < y .limit .0
+    pub upto : y .limit .0 ≤ 1099511627776
+    pub clear : overlaps (y .base .0) (y .limit .0) (block.tableOf (p .block) vs) ≡ false
