@@ -151,10 +151,10 @@ module _ (h : ListLand) (ws : List ℕ) (k : BlockLand) (vs : List ℕ) (c : Che
   abbrev into : List Range
   into = flush a rs ts .into
 
-  left-laid : Laid (h .base .0) left ws
+  pub left-laid : Laid (h .base .0) left ws
   left-laid = laid-rest (h .base .0) ws (keeps .gone) left (rw (keeps .split) at (list-fine .laid))
 
-  list-read : list.readOf (list.closed h left) ws ≡ holding left
+  pub list-read : list.readOf (list.closed h left) ws ≡ holding left
   list-read =
       let f = keeps .left-fine in
       let o = one in
@@ -162,7 +162,7 @@ module _ (h : ListLand) (ws : List ℕ) (k : BlockLand) (vs : List ℕ) (c : Che
       (same-apart (k .base .0) (h .base .0) (k .limit .0) (h .limit .0) left (sym (o .base)) (sym (o .limit)) (f .canon .apart))
       (same-aligned (k .align .0) (h .align .0) left (sym (o .align)) (f .canon .aligned))
 
-  block-read : block.readOf (block.closed k into) (fill into vs) ≡ holding into
+  pub block-read : block.readOf (block.closed k into) (fill into vs) ≡ holding into
   block-read =
       let f = keeps .into-fine in
       read-filled k vs into (c .block-up) (f .canon .apart) (f .canon .aligned) (leb-true (length into) (capacity vs) (f .room))

@@ -8,15 +8,19 @@ use lib.ListN.{length}
 use Rattle.units.specs.declared.Range as units
 use Rattle.model.specs.Marks.{Range, struct}
 use Rattle.model.specs.Lists.{overlaps, holder, insert-in}
+use Rattle.model.specs.Calls.{good-range}
 use Rattle.list_words.specs.Laying.{lay}
 use Rattle.list_words.specs.declared.Spot.{Spot}
 use Rattle.list_land.specs.Layout as list
 use Rattle.list_land.specs.Parts as list-parts
 use Rattle.list_edits.specs.Chains.{mayAsk}
 use Rattle.block_words.specs.Words.{capacity, fill}
+use Rattle.block_words.specs.declared.Entry.{Entry}
 use Rattle.block_land.specs.Layout as block
 use Rattle.flush.specs.Flush.{flushed}
+use Rattle.pair_model.specs.Pairs.{both, any-free}
 use Rattle.pair_words.specs.Lefts.{Left}
+use Rattle.pair.specs.Parts.{Checked, reachBase}
 use Rattle.pair.specs.declared.Changed.{Changed}
 use Rattle.pair.specs.declared.Pair.{Pair}
 
@@ -80,3 +84,19 @@ module _ (p : Pair) (ws vs : List ℕ) (y : units.Range) where
     pub proper : y .base .0 < y .limit .0
     pub upto : y .limit .0 ≤ 1099511627776
     pub clear : overlaps (y .base .0) (y .limit .0) (block.tableOf (p .block) vs) ≡ false
+
+module _ (p : Pair) (ws vs : List ℕ) (y : units.Range) (s : Spot) where
+  -- Some byte of the range is free in either land.
+  abbrev pub takenIn : Bool
+  takenIn = any-free (y .base .0) (y .limit .0) (both (list.walkOf (p .list) ws .met) (block.tableOf (p .block) vs))
+
+  -- A request that keeps the rules, to a pair that was checked.
+  pub record Wanted (e : Entry) : Type 0 where
+    pub checked : Checked p ws vs (reachBase y) s e
+    pub good : good-range (block.arenaOf (p .block) vs) (y .base .0) (y .limit .0) ≡ true
+
+  -- No byte of it is free.
+  pub record Bare : Type 0 where
+    pub entry : Entry
+    pub wanted : Wanted entry
+    pub none : takenIn ≡ false

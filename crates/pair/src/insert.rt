@@ -13,7 +13,7 @@ ghost use Rattle.flush.specs.Flush.{checkOf, flushed};
 ghost use Rattle.flush.specs.declared.FlushCheck.the-variants.{Good};
 ghost use Rattle.pair.specs.Calls.{changed, inserted};
 ghost use Rattle.pair.specs.Parts.{Checked, reachBase};
-ghost use Rattle.pair.specs.Inserts.{flushedPair, Roomless, Open, enterList, enterWords, entered, enteredWords, enteredNodes};
+ghost use Rattle.pair.specs.Inserts.{flushedPair, Roomless, Open, enterList, enterWords, entered, enteredWords, enteredNodes, takenIn, Wanted, Bare};
 
 impl Pair {
     // The list's ranges moved into the block land, until none is left or one has no room. No arena word changes.
@@ -83,6 +83,65 @@ impl Pair {
                     answer: 0,
                     range: fresh,
                 }
+            }
+        }
+    }
+
+    // Whether some byte of the range is free in either land.
+    fn taken(self, words: &[u64], nodes: &[u64], range: Range, spot: Spot, entry: Entry) -> bool
+        requires { ⌜ Wanted self (now words) (now nodes) range spot entry ⌝ }
+        ensures { λ r. ⌜ r ≡ takenIn self (now (words .entry)) (now (nodes .entry)) range spot ⌝ }
+    {
+        let list = self.list;
+        if list_edits::overlaps_at(list.arena(), words, list.chain(), range, spot) {
+            return true;
+        }
+        block_edits::overlaps_at(nodes, self.block.ranges, entry.number, range)
+    }
+
+    // Insert of a range that has no free byte: the flush, then the block land, then the list.
+    fn insert_bare(self, words: &mut [u64], nodes: &mut [u64], range: Range, spot: Spot) -> Changed
+        requires { ⌜ Bare self (now words) (now nodes) range spot ⌝ }
+        ensures { λ r. ⌜ (r ≡ changed (inserted self (now (words .entry)) (now (nodes .entry)) range)) × (now (words .exit) ≡ inserted self (now (words .entry)) (now (nodes .entry)) range .words .list) × (now (nodes .exit) ≡ inserted self (now (words .entry)) (now (nodes .entry)) range .words .block) ⌝ }
+    {
+        let rest = self.flushed(words, nodes);
+        rest.enter(words, nodes, range, spot)
+    }
+
+    // Insert in a pair that was checked, at the first ranges that reach the base of the request.
+    fn insert_at(
+        self,
+        words: &mut [u64],
+        nodes: &mut [u64],
+        range: Range,
+        spot: Spot,
+        entry: Entry,
+    ) -> Changed
+        requires { ⌜ Checked self (now words) (now nodes) (reachBase range) spot entry ⌝ }
+        ensures { λ r. ⌜ (r ≡ changed (inserted self (now (words .entry)) (now (nodes .entry)) range)) × (now (words .exit) ≡ inserted self (now (words .entry)) (now (nodes .entry)) range .words .list) × (now (nodes .exit) ≡ inserted self (now (words .entry)) (now (nodes .entry)) range .words .block) ⌝ }
+    {
+        let RangeCheck::Good = self.block.arena().divided().check_range(range) else {
+            return refused(self, 4);
+        };
+        if self.taken(words, nodes, range, spot, entry) {
+            return refused(self, 1);
+        }
+        self.insert_bare(words, nodes, range, spot)
+    }
+
+    // Makes a range free that has no free byte in either land. The list is first flushed into the block land. The range
+    // returned is the isolated one that then contains it, of the land that took it in.
+    pub fn insert(self, words: &mut [u64], nodes: &mut [u64], range: Range) -> Changed
+        ensures { λ r. ⌜ (r ≡ changed (inserted self (now (words .entry)) (now (nodes .entry)) range)) × (now (words .exit) ≡ inserted self (now (words .entry)) (now (nodes .entry)) range .words .list) × (now (nodes .exit) ≡ inserted self (now (words .entry)) (now (nodes .entry)) range .words .block) ⌝ }
+    {
+        let base = range.base;
+        match self.check(words, nodes, Aim::Reach(base)) {
+            PairCheck::BadSetUp => refused(self, 5),
+            PairCheck::Damaged => refused(self, 6),
+            PairCheck::Good(s, e) => {
+                let spot = s;
+                let entry = e;
+                self.insert_at(words, nodes, range, spot, entry)
             }
         }
     }
