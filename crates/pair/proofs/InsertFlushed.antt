@@ -20,6 +20,7 @@ use Rattle.list_words.specs.Words.{isClean, soundWalk}
 use Rattle.list_words.specs.declared.Spot.{Spot}
 use Rattle.list_words.proofs.Laid.{lay-laid}
 use Rattle.list_land.specs.Layout as list
+use Rattle.list_land.specs.Parts.{reachBase}
 use Rattle.list_land.specs.declared.ListLand.{ListLand}
 use Rattle.list_land.proofs.LayoutLaws as list-laws
 use Rattle.list_land.proofs.Sound as list-sound
@@ -34,7 +35,6 @@ use Rattle.flush.proofs.FlushKeeps as keeps
 use Rattle.pair_model.specs.Pairs.{both, insert}
 use Rattle.pair_model.proofs.InsertTurns.{no-overlap}
 use Rattle.pair.specs.Inserts.{flushedPair, entered, enteredWords, enteredNodes, Open, Bare}
-use Rattle.pair.specs.Parts.{reachBase}
 use Rattle.pair.specs.declared.Changed.{Changed}
 use Rattle.pair.specs.declared.Pair.{Pair}
 use Rattle.pair.proofs.Calling.{flush-checked, accepts}

@@ -20,6 +20,7 @@ use Rattle.list_words.specs.declared.Spot.{Spot}
 use Rattle.list_edits.specs.Chains.{metOf, Held, mayAsk}
 use Rattle.list_land.specs.Layout as list
 use Rattle.list_land.specs.Parts as list-parts
+use Rattle.list_land.specs.Parts.{reachBase}
 use Rattle.list_land.proofs.Requests as list-requests
 use Rattle.block_words.specs.declared.Entry.{Entry}
 use Rattle.block_edits.specs.Edits.{Sorted}
@@ -30,7 +31,7 @@ use Rattle.block_land.proofs.EditAnswers as edits
 use Rattle.pair_model.specs.Pairs.{insert}
 use Rattle.pair.specs.Calls.{called, changed, inserted, refusedBy}
 use Rattle.pair.specs.Inserts.{takenIn, Wanted, Bare}
-use Rattle.pair.specs.Parts.{checkOf, Checked, reachBase}
+use Rattle.pair.specs.Parts.{checkOf, Checked}
 use Rattle.pair.specs.declared.Changed.{Changed}
 use Rattle.pair.specs.declared.Pair.{Pair}
 use Rattle.pair.specs.declared.PairCheck.{PairCheck}

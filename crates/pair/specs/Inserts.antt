@@ -13,6 +13,7 @@ use Rattle.list_words.specs.Laying.{lay}
 use Rattle.list_words.specs.declared.Spot.{Spot}
 use Rattle.list_land.specs.Layout as list
 use Rattle.list_land.specs.Parts as list-parts
+use Rattle.list_land.specs.Parts.{reachBase}
 use Rattle.list_edits.specs.Chains.{mayAsk}
 use Rattle.block_words.specs.Words.{capacity, fill}
 use Rattle.block_words.specs.declared.Entry.{Entry}
@@ -20,7 +21,7 @@ use Rattle.block_land.specs.Layout as block
 use Rattle.flush.specs.Flush.{flushed}
 use Rattle.pair_model.specs.Pairs.{both, any-free}
 use Rattle.pair_words.specs.Lefts.{Left}
-use Rattle.pair.specs.Parts.{Checked, reachBase}
+use Rattle.pair.specs.Parts.{Checked}
 use Rattle.pair.specs.declared.Changed.{Changed}
 use Rattle.pair.specs.declared.Pair.{Pair}
 

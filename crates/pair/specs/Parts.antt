@@ -3,7 +3,6 @@ use Prim.Native.Nat.{ℕ}
 use mathlib.Core.Bool.{Bool, true, not, cond, _&&_}
 use mathlib.Core.List.{List}
 use mathlib.Core.Path.{_≡_}
-use Rattle.units.specs.declared.Range.{Range}
 use Rattle.units.specs.declared.aims.Aim.{Aim}
 use Rattle.list_words.specs.Surveys.{kept-of}
 use Rattle.list_words.specs.declared.Spot.{Spot}
@@ -45,6 +44,3 @@ pub record Checked (p : Pair) (ws vs : List ℕ) (aim : Aim) (s : Spot) (e : Ent
   pub whole : sound p ws vs ≡ true
   pub spot : s ≡ kept-of aim (list.walkOf (p .list) ws .met)
   pub entry : e ≡ entryOf aim (block.tableOf (p .block) vs)
-
-abbrev pub reachBase : Range → Aim
-reachBase y = Aim.Reach (y .base)

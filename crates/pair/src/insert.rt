@@ -9,10 +9,11 @@ use units::Aim;
 use units::Range;
 use units::RangeCheck;
 ghost use mathlib.Core.Path.{_≡_};
+ghost use Rattle.list_land.specs.Parts.{reachBase};
 ghost use Rattle.flush.specs.Flush.{checkOf, flushed};
 ghost use Rattle.flush.specs.declared.FlushCheck.the-variants.{Good};
 ghost use Rattle.pair.specs.Calls.{changed, inserted};
-ghost use Rattle.pair.specs.Parts.{Checked, reachBase};
+ghost use Rattle.pair.specs.Parts.{Checked};
 ghost use Rattle.pair.specs.Inserts.{flushedPair, Roomless, Open, enterList, enterWords, entered, enteredWords, enteredNodes, takenIn, Wanted, Bare};
 
 impl Pair {

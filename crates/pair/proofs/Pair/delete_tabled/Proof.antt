@@ -1,0 +1,86 @@
+-- `Pair::delete_tabled` meets its contract: what the table's edit answers. Assumes nothing.
+use Rattle.pair.proofs.DeleteAnswers.{order, order-le, cut-sorted, cut-spot, none-holds, after-none, spills, after-spill, cut-room, cut-0}
+use borrow.Author.Needs.{needs}
+use Rattle.pair.proofs.Pair.delete_tabled.Statement.{statement}
+use Rattle.pair.proofs.Pair.delete_tabled.Tie as tie
+
+cut-out-requires : tie.Need-cut-out-requires
+cut-out-requires c κs =
+    (cut-sorted _ _ _ (c .before .before .before .args .range) _ _ (c .before .before .before .pre), (order _ _ _ (c .before .before .before .args .range) _ _ (c .before .before .before .pre .asked), cut-spot _ _ _ (c .before .before .before .args .range) _ _ (c .before .before .before .pre)))
+
+enum-told : tie.Need-enum-told
+enum-told c = search needs
+
+refuse-delete-requires : tie.Need-refuse-delete-requires
+refuse-delete-requires c κs =
+    none-holds _ _ _ (c .before .before .before .before .before .before .before .before .before .before .args .range) _ _ (c .before .before .before .before .before .before .before .before .before .before .pre) _ _ (c .before .before .before .before .before .before .cut-out .ensures) (c .before .before .enum-told .given .1)
+
+enum-told-2 : tie.Need-enum-told-2
+enum-told-2 c = search needs
+
+hand-over-requires : tie.Need-hand-over-requires
+hand-over-requires c κs =
+    spills _ _ _ (c .before .before .before .before .before .before .before .before .before .before .args .range) _ _ (c .before .before .before .before .before .before .before .before .before .before .pre) _ _ (c .before .before .before .before .before .before .cut-out .ensures) (c .before .before .enum-told2 .given .1)
+
+enum-known-old : tie.Need-enum-known-old
+enum-known-old c = search needs
+
+size-requires : tie.Need-size-requires
+size-requires c κs =
+    order-le _ _ _ (c .before .before .before .before .before .before .before .before .before .before .before .args .range) _ _ (c .before .before .before .before .before .before .before .before .before .before .before .pre .asked)
+
+minus-requires : tie.Need-minus-requires
+minus-requires c κs =
+    cut-room _ _ _ (c .before .before .before .before .before .before .before .before .before .before .before .before .args .range) _ _ (c .before .before .before .before .before .before .before .before .before .before .before .before .pre) _ _ (c .before .before .before .before .before .before .before .before .cut-out .ensures) _ _ (c .before .before .before .before .old .given .1) _ (c .size .ensures)
+
+close-requires : tie.Need-close-requires
+close-requires c κs = search needs
+
+same-length : tie.Need-same-length
+same-length c = search needs
+
+same-length-2 : tie.Need-same-length-2
+same-length-2 c = search needs
+
+returns : tie.Need-returns
+returns c =
+    after-none _ _ _ (c .before .before .before .before .before .before .before .before .before .before .before .args .range) _ _ (c .before .before .before .before .before .before .before .before .before .before .before .pre) _ _ (c .before .before .before .before .before .before .before .cut-out .ensures) (c .before .before .before .enum-told .given .1) _ _ _ (c .refuse-delete .ensures)
+
+same-length-3 : tie.Need-same-length-3
+same-length-3 c = search needs
+
+same-length-4 : tie.Need-same-length-4
+same-length-4 c = search needs
+
+returns-2 : tie.Need-returns-2
+returns-2 c =
+    after-spill _ _ _ (c .before .before .before .before .before .before .before .before .before .before .before .before .before .before .before .args .range) _ _ (c .before .before .before .before .before .before .before .before .before .before .before .before .before .before .before .pre) _ _ (c .before .before .before .before .before .before .before .before .before .before .before .cut-out .ensures) (c .before .before .before .before .before .before .before .enum-told2 .given .1) _ _ _ (c .before .before .before .before .hand-over .ensures)
+
+same-length-5 : tie.Need-same-length-5
+same-length-5 c = search needs
+
+returns-3 : tie.Need-returns-3
+returns-3 c =
+    cut-0 _ _ _ (c .before .before .before .before .before .before .before .before .before .before .before .before .before .before .args .range) _ _ (c .before .before .before .before .before .before .before .before .before .before .before .before .before .before .pre) _ _ (c .before .before .before .before .before .before .before .before .before .before .cut-out .ensures) _ _ (c .before .before .before .before .before .before .old .given .1) _ (c .before .before .size .ensures) _ (c .before .minus .ensures) _ (c .close .ensures)
+
+pub delete-tabled-spec : {M : Type 1} → statement M
+delete-tabled-spec =
+    tie.close
+    (tie.spec
+    cut-out-requires
+    enum-told
+    refuse-delete-requires
+    enum-told-2
+    hand-over-requires
+    enum-known-old
+    size-requires
+    minus-requires
+    close-requires
+    same-length
+    same-length-2
+    returns
+    same-length-3
+    same-length-4
+    returns-2
+    same-length-5
+    returns-3)
