@@ -30,7 +30,13 @@ enum-known-s c = search needs
 
 find-at-requires : tie.Need-find-at-requires
 find-at-requires c κs =
-    find-checked (c .before .before .before .before .before .before .before .before .before .before .before .before .before .args .self) _ _ (c .before .before .before .before .before .before .before .before .before .before .before .before .before .args .which) (c .before .before .before .before .before .before .before .before .before .before .before .before .before .args .size) (c .before .before .before .before .before .before .before .before .before .before .before .before .before .args .mode) _ (c .before .before .before .before .before .before .before .before .before .arena .ensures) _ (c .before .before .before .before .before .before .before .before .find-size .ensures) _ (c .before .before .before .before .before .check .ensures) _ _ (c .before .before .before .s .given .1)
+    let s = c .before .before .before in
+    let check = s .before .before in
+    let find-size = check .before .before .before in
+    let arena = find-size .before in
+    let start = arena .before .before .before .before in
+    find-checked (start .args .self) _ _ (start .args .which) (start .args .size) (start .args .mode)
+    _ (arena .arena .ensures) _ (find-size .find-size .ensures) _ (check .check .ensures) _ _ (s .s .given .1)
 
 same-length : tie.Need-same-length
 same-length c = search needs
@@ -40,7 +46,13 @@ same-length-2 c = search needs
 
 returns : tie.Need-returns
 returns c =
-    find-5 (c .before .before .before .before .before .before .before .before .before .before .before .args .self) _ _ (c .before .before .before .before .before .before .before .before .before .before .before .args .which) (c .before .before .before .before .before .before .before .before .before .before .before .args .size) (c .before .before .before .before .before .before .before .before .before .before .before .args .mode) _ (c .before .before .before .before .before .before .before .arena .ensures) _ (c .before .before .before .before .before .before .find-size .ensures) _ (c .before .before .before .check .ensures) (c .before .enum-told .given .1) _ (c .none-found .ensures)
+    let enum-told = c .before in
+    let check = enum-told .before .before in
+    let find-size = check .before .before .before in
+    let arena = find-size .before in
+    let start = arena .before .before .before .before in
+    find-5 (start .args .self) _ _ (start .args .which) (start .args .size) (start .args .mode)
+    _ (arena .arena .ensures) _ (find-size .find-size .ensures) _ (check .check .ensures) (enum-told .enum-told .given .1) _ (c .none-found .ensures)
 
 same-length-3 : tie.Need-same-length-3
 same-length-3 c = search needs
@@ -50,7 +62,13 @@ same-length-4 c = search needs
 
 returns-2 : tie.Need-returns-2
 returns-2 c =
-    find-6 (c .before .before .before .before .before .before .before .before .before .before .before .args .self) _ _ (c .before .before .before .before .before .before .before .before .before .before .before .args .which) (c .before .before .before .before .before .before .before .before .before .before .before .args .size) (c .before .before .before .before .before .before .before .before .before .before .before .args .mode) _ (c .before .before .before .before .before .before .before .arena .ensures) _ (c .before .before .before .before .before .before .find-size .ensures) _ (c .before .before .before .check .ensures) (c .before .enum-told2 .given .1) _ (c .none-found2 .ensures)
+    let enum-told2 = c .before in
+    let check = enum-told2 .before .before in
+    let find-size = check .before .before .before in
+    let arena = find-size .before in
+    let start = arena .before .before .before .before in
+    find-6 (start .args .self) _ _ (start .args .which) (start .args .size) (start .args .mode)
+    _ (arena .arena .ensures) _ (find-size .find-size .ensures) _ (check .check .ensures) (enum-told2 .enum-told2 .given .1) _ (c .none-found2 .ensures)
 
 same-length-5 : tie.Need-same-length-5
 same-length-5 c = search needs

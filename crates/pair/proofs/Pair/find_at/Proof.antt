@@ -12,7 +12,8 @@ arena-requires c κs = search needs
 
 check-find-requires : tie.Need-check-find-requires
 check-find-requires c κs =
-    find-positive (c .before .before .before .before .args .self) _ _ (c .before .before .before .before .args .which) (c .before .before .before .before .args .size) (c .before .before .before .before .args .mode) _ _ (c .before .before .before .before .pre) _ (c .arena .ensures)
+    let start = c .before .before .before .before in
+    find-positive (start .args .self) _ _ (start .args .which) (start .args .size) (start .args .mode) _ _ (start .pre) _ (c .arena .ensures)
 
 enum-told : tie.Need-enum-told
 enum-told c = search needs
@@ -22,11 +23,17 @@ none-found-requires c κs = search needs
 
 returns : tie.Need-returns
 returns c =
-    find-4 (c .before .before .before .before .before .before .before .args .self) _ _ (c .before .before .before .before .before .before .before .args .which) (c .before .before .before .before .before .before .before .args .size) (c .before .before .before .before .before .before .before .args .mode) _ _ (c .before .before .before .before .before .before .before .pre) (size-bad (arenaOf (c .before .before .before .before .before .before .before .args .self .block) []) _ (c .before .before .before .arena .ensures) (c .before .before .before .before .before .before .before .args .which) (c .before .before .before .before .before .before .before .args .size .0) _ (c .before .before .check-find .ensures) (c .before .match .keys2)) _ (c .none-found .ensures)
+    let match-keys2 = c .before in
+    let check-find = match-keys2 .before in
+    let arena = check-find .before in
+    let start = arena .before .before .before .before in
+    find-4 (start .args .self) _ _ (start .args .which) (start .args .size) (start .args .mode) _ _ (start .pre)
+    (size-bad (arenaOf (start .args .self .block) []) _ (arena .arena .ensures) (start .args .which) (start .args .size .0) _ (check-find .check-find .ensures) (match-keys2 .match .keys2)) _ (c .none-found .ensures)
 
 choose-side-requires : tie.Need-choose-side-requires
 choose-side-requires c κs =
-    find-ordered (c .before .before .before .before .before .before .before .args .self) _ _ (c .before .before .before .before .before .before .before .args .which) (c .before .before .before .before .before .before .before .args .size) (c .before .before .before .before .before .before .before .args .mode) _ _ (c .before .before .before .before .before .before .before .pre)
+    let start = c .before .before .before .before .before .before .before in
+    find-ordered (start .args .self) _ _ (start .args .which) (start .args .size) (start .args .mode) _ _ (start .pre)
 
 enum-told-2 : tie.Need-enum-told-2
 enum-told-2 c = search needs
@@ -39,32 +46,74 @@ enum-told-3 c = search needs
 
 find-in-list-requires : tie.Need-find-in-list-requires
 find-in-list-requires c κs =
-    list-chosen (c .before .before .before .before .before .before .before .before .before .before .before .args .self) _ _ (c .before .before .before .before .before .before .before .before .before .before .before .args .which) (c .before .before .before .before .before .before .before .before .before .before .before .args .size) (c .before .before .before .before .before .before .before .before .before .before .before .args .mode) _ _ (c .before .before .before .before .before .before .before .before .before .before .before .pre) (size-good (arenaOf (c .before .before .before .before .before .before .before .before .before .before .before .args .self .block) []) _ (c .before .before .before .before .before .before .before .arena .ensures) (c .before .before .before .before .before .before .before .before .before .before .before .args .which) (c .before .before .before .before .before .before .before .before .before .before .before .args .size .0) _ (c .before .before .before .before .before .before .check-find .ensures) (c .before .before .before .before .enum-told .given .1)) _ (c .before .before .before .choose-side .ensures) (c .before .enum-told3 .given .1)
+    let enum-told3 = c .before in
+    let choose-side = enum-told3 .before .before in
+    let enum-told = choose-side .before in
+    let check-find = enum-told .before .before in
+    let arena = check-find .before in
+    let start = arena .before .before .before .before in
+    list-chosen (start .args .self) _ _ (start .args .which) (start .args .size) (start .args .mode) _ _ (start .pre)
+    (size-good (arenaOf (start .args .self .block) []) _ (arena .arena .ensures) (start .args .which) (start .args .size .0) _ (check-find .check-find .ensures) (enum-told .enum-told .given .1))
+    _ (choose-side .choose-side .ensures) (enum-told3 .enum-told3 .given .1)
 
 enum-told-4 : tie.Need-enum-told-4
 enum-told-4 c = search needs
 
 find-in-block-requires : tie.Need-find-in-block-requires
 find-in-block-requires c κs =
-    block-chosen (c .before .before .before .before .before .before .before .before .before .before .before .args .self) _ _ (c .before .before .before .before .before .before .before .before .before .before .before .args .which) (c .before .before .before .before .before .before .before .before .before .before .before .args .size) (c .before .before .before .before .before .before .before .before .before .before .before .args .mode) _ _ (c .before .before .before .before .before .before .before .before .before .before .before .pre) (size-good (arenaOf (c .before .before .before .before .before .before .before .before .before .before .before .args .self .block) []) _ (c .before .before .before .before .before .before .before .arena .ensures) (c .before .before .before .before .before .before .before .before .before .before .before .args .which) (c .before .before .before .before .before .before .before .before .before .before .before .args .size .0) _ (c .before .before .before .before .before .before .check-find .ensures) (c .before .before .before .before .enum-told .given .1)) _ (c .before .before .before .choose-side .ensures) (c .before .enum-told4 .given .1)
+    let enum-told4 = c .before in
+    let choose-side = enum-told4 .before .before in
+    let enum-told = choose-side .before in
+    let check-find = enum-told .before .before in
+    let arena = check-find .before in
+    let start = arena .before .before .before .before in
+    block-chosen (start .args .self) _ _ (start .args .which) (start .args .size) (start .args .mode) _ _ (start .pre)
+    (size-good (arenaOf (start .args .self .block) []) _ (arena .arena .ensures) (start .args .which) (start .args .size .0) _ (check-find .check-find .ensures) (enum-told .enum-told .given .1))
+    _ (choose-side .choose-side .ensures) (enum-told4 .enum-told4 .given .1)
 
 returns-2 : tie.Need-returns-2
 returns-2 c =
-    find-2 (c .before .before .before .before .before .before .before .before .before .before .before .args .self) _ _ (c .before .before .before .before .before .before .before .before .before .before .before .args .which) (c .before .before .before .before .before .before .before .before .before .before .before .args .size) (c .before .before .before .before .before .before .before .before .before .before .before .args .mode) _ _ (c .before .before .before .before .before .before .before .before .before .before .before .pre) (size-good (arenaOf (c .before .before .before .before .before .before .before .before .before .before .before .args .self .block) []) _ (c .before .before .before .before .before .before .before .arena .ensures) (c .before .before .before .before .before .before .before .before .before .before .before .args .which) (c .before .before .before .before .before .before .before .before .before .before .before .args .size .0) _ (c .before .before .before .before .before .before .check-find .ensures) (c .before .before .before .before .enum-told .given .1)) _ (c .before .before .before .choose-side .ensures) (c .before .enum-told2 .given .1) _ (c .none-found2 .ensures)
+    let enum-told2 = c .before in
+    let choose-side = enum-told2 .before .before in
+    let enum-told = choose-side .before in
+    let check-find = enum-told .before .before in
+    let arena = check-find .before in
+    let start = arena .before .before .before .before in
+    find-2 (start .args .self) _ _ (start .args .which) (start .args .size) (start .args .mode) _ _ (start .pre)
+    (size-good (arenaOf (start .args .self .block) []) _ (arena .arena .ensures) (start .args .which) (start .args .size .0) _ (check-find .check-find .ensures) (enum-told .enum-told .given .1))
+    _ (choose-side .choose-side .ensures) (enum-told2 .enum-told2 .given .1) _ (c .none-found2 .ensures)
 
 same-length : tie.Need-same-length
 same-length c = search needs
 
 returns-3 : tie.Need-returns-3
 returns-3 c =
-    find-list (c .before .before .before .before .before .before .before .before .before .before .before .before .before .before .args .self) _ _ (c .before .before .before .before .before .before .before .before .before .before .before .before .before .before .args .which) (c .before .before .before .before .before .before .before .before .before .before .before .before .before .before .args .size) (c .before .before .before .before .before .before .before .before .before .before .before .before .before .before .args .mode) _ _ (c .before .before .before .before .before .before .before .before .before .before .before .before .before .before .pre) (size-good (arenaOf (c .before .before .before .before .before .before .before .before .before .before .before .before .before .before .args .self .block) []) _ (c .before .before .before .before .before .before .before .before .before .before .arena .ensures) (c .before .before .before .before .before .before .before .before .before .before .before .before .before .before .args .which) (c .before .before .before .before .before .before .before .before .before .before .before .before .before .before .args .size .0) _ (c .before .before .before .before .before .before .before .before .before .check-find .ensures) (c .before .before .before .before .before .before .before .enum-told .given .1)) _ (c .before .before .before .before .before .before .choose-side .ensures) (c .before .before .before .before .enum-told3 .given .1) _ _ (c .before .before .find-in-list .ensures)
+    let find-in-list = c .before .before in
+    let enum-told3 = find-in-list .before .before in
+    let choose-side = enum-told3 .before .before in
+    let enum-told = choose-side .before in
+    let check-find = enum-told .before .before in
+    let arena = check-find .before in
+    let start = arena .before .before .before .before in
+    find-list (start .args .self) _ _ (start .args .which) (start .args .size) (start .args .mode) _ _ (start .pre)
+    (size-good (arenaOf (start .args .self .block) []) _ (arena .arena .ensures) (start .args .which) (start .args .size .0) _ (check-find .check-find .ensures) (enum-told .enum-told .given .1))
+    _ (choose-side .choose-side .ensures) (enum-told3 .enum-told3 .given .1) _ _ (find-in-list .find-in-list .ensures)
 
 same-length-2 : tie.Need-same-length-2
 same-length-2 c = search needs
 
 returns-4 : tie.Need-returns-4
 returns-4 c =
-    find-block (c .before .before .before .before .before .before .before .before .before .before .before .before .before .before .args .self) _ _ (c .before .before .before .before .before .before .before .before .before .before .before .before .before .before .args .which) (c .before .before .before .before .before .before .before .before .before .before .before .before .before .before .args .size) (c .before .before .before .before .before .before .before .before .before .before .before .before .before .before .args .mode) _ _ (c .before .before .before .before .before .before .before .before .before .before .before .before .before .before .pre) (size-good (arenaOf (c .before .before .before .before .before .before .before .before .before .before .before .before .before .before .args .self .block) []) _ (c .before .before .before .before .before .before .before .before .before .before .arena .ensures) (c .before .before .before .before .before .before .before .before .before .before .before .before .before .before .args .which) (c .before .before .before .before .before .before .before .before .before .before .before .before .before .before .args .size .0) _ (c .before .before .before .before .before .before .before .before .before .check-find .ensures) (c .before .before .before .before .before .before .before .enum-told .given .1)) _ (c .before .before .before .before .before .before .choose-side .ensures) (c .before .before .before .before .enum-told4 .given .1) _ _ (c .before .before .find-in-block .ensures)
+    let find-in-block = c .before .before in
+    let enum-told4 = find-in-block .before .before in
+    let choose-side = enum-told4 .before .before in
+    let enum-told = choose-side .before in
+    let check-find = enum-told .before .before in
+    let arena = check-find .before in
+    let start = arena .before .before .before .before in
+    find-block (start .args .self) _ _ (start .args .which) (start .args .size) (start .args .mode) _ _ (start .pre)
+    (size-good (arenaOf (start .args .self .block) []) _ (arena .arena .ensures) (start .args .which) (start .args .size .0) _ (check-find .check-find .ensures) (enum-told .enum-told .given .1))
+    _ (choose-side .choose-side .ensures) (enum-told4 .enum-told4 .given .1) _ _ (find-in-block .find-in-block .ensures)
 
 pub find-at-spec : {M : Type 1} → statement M
 find-at-spec =

@@ -12,18 +12,27 @@ find-size-requires c κs = search needs
 
 part-requires : tie.Need-part-requires
 part-requires c κs =
-    block-within (c .before .before .before .before .before .before .args .self) _ (c .before .before .before .before .before .before .args .which) (c .before .before .before .before .before .before .args .size) (c .before .before .before .before .before .before .args .mode) _ (c .before .before .before .before .before .before .pre) _ (c .before .arena .ensures) _ (c .find-size .ensures)
+    let arena = c .before in
+    let start = arena .before .before .before .before .before in
+    block-within (start .args .self) _ (start .args .which) (start .args .size) (start .args .mode) _ (start .pre) _ (arena .arena .ensures) _ (c .find-size .ensures)
 
 enum-told : tie.Need-enum-told
 enum-told c = search needs
 
 returns : tie.Need-returns
 returns c =
-    block-kept (c .before .before .before .before .before .before .before .before .before .args .self) _ (c .before .before .before .before .before .before .before .before .before .args .which) (c .before .before .before .before .before .before .before .before .before .args .size) (c .before .before .before .before .before .before .before .before .before .args .mode) _ (c .before .before .before .before .before .before .before .before .before .pre) (c .enum-told .given .1)
+    let start = c .before .before .before .before .before .before .before .before .before in
+    block-kept (start .args .self) _ (start .args .which) (start .args .size) (start .args .mode) _ (start .pre) (c .enum-told .given .1)
 
 cut-at-requires : tie.Need-cut-at-requires
 cut-at-requires c κs =
-    block-ready (c .before .before .before .before .before .before .before .before .before .args .self) _ (c .before .before .before .before .before .before .before .before .before .args .which) (c .before .before .before .before .before .before .before .before .before .args .size) (c .before .before .before .before .before .before .before .before .before .args .mode) _ (c .before .before .before .before .before .before .before .before .before .pre) (c .before .match .keys2) _ (c .before .before .before .before .arena .ensures) _ (c .before .before .before .find-size .ensures) _ (c .before .before .part .ensures)
+    let match-keys2 = c .before in
+    let part = match-keys2 .before in
+    let find-size = part .before in
+    let arena = find-size .before in
+    let start = arena .before .before .before .before .before in
+    block-ready (start .args .self) _ (start .args .which) (start .args .size) (start .args .mode) _ (start .pre)
+    (match-keys2 .match .keys2) _ (arena .arena .ensures) _ (find-size .find-size .ensures) _ (part .part .ensures)
 
 enum-known-count : tie.Need-enum-known-count
 enum-known-count c = search needs
@@ -36,15 +45,36 @@ same-length c = search needs
 
 returns-2 : tie.Need-returns-2
 returns-2 c =
-    block-never (c .before .before .before .before .before .before .before .before .before .before .before .before .before .before .args .self) _ (c .before .before .before .before .before .before .before .before .before .before .before .before .before .before .args .which) (c .before .before .before .before .before .before .before .before .before .before .before .before .before .before .args .size) (c .before .before .before .before .before .before .before .before .before .before .before .before .before .before .args .mode) _ (c .before .before .before .before .before .before .before .before .before .before .before .before .before .before .pre) (c .before .before .before .before .before .before .match .keys2) _ (c .before .before .before .before .before .before .before .before .before .arena .ensures) _ (c .before .before .before .before .before .before .before .before .find-size .ensures) _ (c .before .before .before .before .before .before .before .part .ensures) _ _ (c .before .before .before .before .cut-at .ensures) (c .before .match2 .keys2)
+    let match2-keys2 = c .before in
+    let cut-at = match2-keys2 .before .before .before in
+    let match-keys2 = cut-at .before .before in
+    let part = match-keys2 .before in
+    let find-size = part .before in
+    let arena = find-size .before in
+    let start = arena .before .before .before .before .before in
+    block-never (start .args .self) _ (start .args .which) (start .args .size) (start .args .mode) _ (start .pre)
+    (match-keys2 .match .keys2) _ (arena .arena .ensures) _ (find-size .find-size .ensures) _ (part .part .ensures)
+    _ _ (cut-at .cut-at .ensures) (match2-keys2 .match2 .keys2)
 
 size-requires : tie.Need-size-requires
 size-requires c κs =
-    block-order (c .before .before .before .before .before .before .before .before .before .before .before .before .before .before .before .args .self) _ (c .before .before .before .before .before .before .before .before .before .before .before .before .before .before .before .args .which) (c .before .before .before .before .before .before .before .before .before .before .before .before .before .before .before .args .size) (c .before .before .before .before .before .before .before .before .before .before .before .before .before .before .before .args .mode) _ (c .before .before .before .before .before .before .before .before .before .before .before .before .before .before .before .pre) (c .before .before .before .before .before .before .before .match .keys2) _ (c .before .before .before .before .before .before .before .before .before .before .arena .ensures) _ (c .before .before .before .before .before .before .before .before .before .find-size .ensures) _ (c .before .before .before .before .before .before .before .before .part .ensures)
+    let match-keys2 = c .before .before .before .before .before .before .before in
+    let part = match-keys2 .before in
+    let find-size = part .before in
+    let arena = find-size .before in
+    let start = arena .before .before .before .before .before in
+    block-order (start .args .self) _ (start .args .which) (start .args .size) (start .args .mode) _ (start .pre)
+    (match-keys2 .match .keys2) _ (arena .arena .ensures) _ (find-size .find-size .ensures) _ (part .part .ensures)
 
 minus-requires : tie.Need-minus-requires
 minus-requires c κs =
-    block-room (c .before .before .before .before .before .before .before .before .before .before .before .before .before .before .before .before .args .self) _ (c .before .before .before .before .before .before .before .before .before .before .before .before .before .before .before .before .args .which) (c .before .before .before .before .before .before .before .before .before .before .before .before .before .before .before .before .args .size) (c .before .before .before .before .before .before .before .before .before .before .before .before .before .before .before .before .args .mode) _ (c .before .before .before .before .before .before .before .before .before .before .before .before .before .before .before .before .pre) (c .before .before .before .before .before .before .before .before .match .keys2) _ (c .before .before .before .before .before .before .before .before .before .before .before .arena .ensures) _ (c .before .before .before .before .before .before .before .before .before .before .find-size .ensures) _ (c .before .before .before .before .before .before .before .before .before .part .ensures) _ (c .size .ensures)
+    let match-keys2 = c .before .before .before .before .before .before .before .before in
+    let part = match-keys2 .before in
+    let find-size = part .before in
+    let arena = find-size .before in
+    let start = arena .before .before .before .before .before in
+    block-room (start .args .self) _ (start .args .which) (start .args .size) (start .args .mode) _ (start .pre)
+    (match-keys2 .match .keys2) _ (arena .arena .ensures) _ (find-size .find-size .ensures) _ (part .part .ensures) _ (c .size .ensures)
 
 close-requires : tie.Need-close-requires
 close-requires c κs = search needs
@@ -54,7 +84,18 @@ same-length-2 c = search needs
 
 returns-3 : tie.Need-returns-3
 returns-3 c =
-    block-0 (c .before .before .before .before .before .before .before .before .before .before .before .before .before .before .before .before .before .before .args .self) _ (c .before .before .before .before .before .before .before .before .before .before .before .before .before .before .before .before .before .before .args .which) (c .before .before .before .before .before .before .before .before .before .before .before .before .before .before .before .before .before .before .args .size) (c .before .before .before .before .before .before .before .before .before .before .before .before .before .before .before .before .before .before .args .mode) _ (c .before .before .before .before .before .before .before .before .before .before .before .before .before .before .before .before .before .before .pre) (c .before .before .before .before .before .before .before .before .before .before .match .keys2) _ (c .before .before .before .before .before .before .before .before .before .before .before .before .before .arena .ensures) _ (c .before .before .before .before .before .before .before .before .before .before .before .before .find-size .ensures) _ (c .before .before .before .before .before .before .before .before .before .before .before .part .ensures) _ _ (c .before .before .before .before .before .before .before .before .cut-at .ensures) _ _ (c .before .before .before .before .count .given .1) _ (c .before .before .size .ensures) _ (c .before .minus .ensures) _ (c .close .ensures)
+    let minus = c .before in
+    let size = minus .before in
+    let count = size .before .before in
+    let cut-at = count .before .before .before .before in
+    let match-keys2 = cut-at .before .before in
+    let part = match-keys2 .before in
+    let find-size = part .before in
+    let arena = find-size .before in
+    let start = arena .before .before .before .before .before in
+    block-0 (start .args .self) _ (start .args .which) (start .args .size) (start .args .mode) _ (start .pre)
+    (match-keys2 .match .keys2) _ (arena .arena .ensures) _ (find-size .find-size .ensures) _ (part .part .ensures)
+    _ _ (cut-at .cut-at .ensures) _ _ (count .count .given .1) _ (size .size .ensures) _ (minus .minus .ensures) _ (c .close .ensures)
 
 pub find-in-block-spec : {M : Type 1} → statement M
 find-in-block-spec =

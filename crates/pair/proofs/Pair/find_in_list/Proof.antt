@@ -12,21 +12,30 @@ find-size-requires c κs = search needs
 
 part-requires : tie.Need-part-requires
 part-requires c κs =
-    list-within (c .before .before .before .before .before .before .args .self) _ (c .before .before .before .before .before .before .args .which) (c .before .before .before .before .before .before .args .size) (c .before .before .before .before .before .before .args .mode) _ (c .before .before .before .before .before .before .pre) _ (c .before .before .arena .ensures) _ (c .find-size .ensures)
+    let arena = c .before .before in
+    let start = arena .before .before .before .before in
+    list-within (start .args .self) _ (start .args .which) (start .args .size) (start .args .mode) _ (start .pre) _ (arena .arena .ensures) _ (c .find-size .ensures)
 
 enum-told : tie.Need-enum-told
 enum-told c = search needs
 
 returns : tie.Need-returns
 returns c =
-    list-kept (c .before .before .before .before .before .before .before .before .before .args .self) _ (c .before .before .before .before .before .before .before .before .before .args .which) (c .before .before .before .before .before .before .before .before .before .args .size) (c .before .before .before .before .before .before .before .before .before .args .mode) _ (c .before .before .before .before .before .before .before .before .before .pre) (c .enum-told .given .1)
+    let start = c .before .before .before .before .before .before .before .before .before in
+    list-kept (start .args .self) _ (start .args .which) (start .args .size) (start .args .mode) _ (start .pre) (c .enum-told .given .1)
 
 chain-requires : tie.Need-chain-requires
 chain-requires c κs = search needs
 
 cut-at-requires : tie.Need-cut-at-requires
 cut-at-requires c κs =
-    list-holding (c .before .before .before .before .before .before .before .before .before .before .args .self) _ (c .before .before .before .before .before .before .before .before .before .before .args .which) (c .before .before .before .before .before .before .before .before .before .before .args .size) (c .before .before .before .before .before .before .before .before .before .before .args .mode) _ (c .before .before .before .before .before .before .before .before .before .before .pre) (c .before .before .match .keys2) _ (c .before .before .before .before .before .before .arena .ensures) _ (c .before .before .before .before .find-size .ensures) _ (c .before .before .before .part .ensures) _ (c .chain .ensures)
+    let match-keys2 = c .before .before in
+    let part = match-keys2 .before in
+    let find-size = part .before in
+    let arena = find-size .before .before in
+    let start = arena .before .before .before .before in
+    list-holding (start .args .self) _ (start .args .which) (start .args .size) (start .args .mode) _ (start .pre)
+    (match-keys2 .match .keys2) _ (arena .arena .ensures) _ (find-size .find-size .ensures) _ (part .part .ensures) _ (c .chain .ensures)
 
 close-requires : tie.Need-close-requires
 close-requires c κs = search needs
@@ -36,7 +45,16 @@ same-length c = search needs
 
 returns-2 : tie.Need-returns-2
 returns-2 c =
-    list-0 (c .before .before .before .before .before .before .before .before .before .before .before .before .before .before .args .self) _ (c .before .before .before .before .before .before .before .before .before .before .before .before .before .before .args .which) (c .before .before .before .before .before .before .before .before .before .before .before .before .before .before .args .size) (c .before .before .before .before .before .before .before .before .before .before .before .before .before .before .args .mode) _ (c .before .before .before .before .before .before .before .before .before .before .before .before .before .before .pre) (c .before .before .before .before .before .before .match .keys2) _ (c .before .before .before .before .before .before .before .before .before .before .arena .ensures) _ (c .before .before .before .before .before .before .before .before .find-size .ensures) _ (c .before .before .before .before .before .before .before .part .ensures) _ (c .before .before .before .before .chain .ensures) _ _ (c .before .before .before .cut-at .ensures) _ (c .close .ensures)
+    let cut-at = c .before .before .before in
+    let chain = cut-at .before in
+    let match-keys2 = chain .before .before in
+    let part = match-keys2 .before in
+    let find-size = part .before in
+    let arena = find-size .before .before in
+    let start = arena .before .before .before .before in
+    list-0 (start .args .self) _ (start .args .which) (start .args .size) (start .args .mode) _ (start .pre)
+    (match-keys2 .match .keys2) _ (arena .arena .ensures) _ (find-size .find-size .ensures) _ (part .part .ensures) _ (chain .chain .ensures)
+    _ _ (cut-at .cut-at .ensures) _ (c .close .ensures)
 
 pub find-in-list-spec : {M : Type 1} → statement M
 find-in-list-spec =
