@@ -3,3 +3,4 @@ pub mod Demand
 pub mod Parts
 pub mod Inserts
 pub mod Deletes
+pub mod Finding

@@ -5,6 +5,7 @@
 // nothing of its own.
 mod insert;
 mod delete;
+mod find;
 
 use block_land::BlockLand;
 use block_words::Entry;

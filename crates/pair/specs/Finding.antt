@@ -1,0 +1,62 @@
+-- Contracts of the inner functions of a find of a pair. Assumes nothing.
+use Prim.Native.Nat.{ℕ, _≤_}
+use mathlib.Core.Bool.{true, false, cond}
+use mathlib.Core.List.{List}
+use mathlib.Core.Path.{_≡_}
+use lib.Dec.{eqb}
+use Rattle.units.specs.Rules.{findSize}
+use Rattle.units.specs.declared.Range.{Range}
+use Rattle.units.specs.declared.Size.{Size}
+use Rattle.units.specs.declared.Which.{Which}
+use Rattle.units.specs.declared.aims.Aim.{Aim}
+use Rattle.model.specs.Calls.{good-size}
+use Rattle.model.specs.Marks.{plain, struct}
+use Rattle.list_words.specs.declared.Spot.{Spot}
+use Rattle.list_land.specs.Calls as list-calls
+use Rattle.list_land.specs.Layout as list
+use Rattle.list_land.specs.Parts as list-parts
+use Rattle.list_land.specs.declared.ListLand.{ListLand}
+use Rattle.block_words.specs.declared.Entry.{Entry}
+use Rattle.block_land.specs.Calls as block-calls
+use Rattle.block_land.specs.Layout as block
+use Rattle.block_land.specs.Parts as block-parts
+use Rattle.block_land.specs.declared.BlockLand.{BlockLand}
+use Rattle.pair_model.specs.Pairs.{list-first}
+use Rattle.pair.specs.declared.Found.{Found}
+use Rattle.pair.specs.declared.Pair.{Pair}
+use Rattle.pair.specs.declared.find.Side.{Side}
+
+-- The size that both lands look for.
+abbrev pub findAim : Pair → Which → Size → Aim
+findAim p w n = Aim.Find w (record { 0 = findSize (p .block .align .0) (n .0) })
+
+-- Neither of two ranges has its limit below its base.
+pub record Ordered (r q : Range) : Type 0 where
+  pub list : r .base .0 ≤ r .limit .0
+  pub block : q .base .0 ≤ q .limit .0
+
+-- Neither land has a range, base 0; one has; or the one that comes first.
+unfoldable pub sideOf : Which → Range → Range → Side
+sideOf w r q =
+    cond (eqb (r .base .0) 0)
+    (cond (eqb (q .base .0) 0) Side.Neither Side.Block)
+    (cond (eqb (q .base .0) 0) Side.List (cond (list-first w (plain r) (plain q)) Side.List Side.Block))
+
+-- A spot of a sound list that a find of a good size has chosen.
+pub record ListChosen (h : ListLand) (ws : List ℕ) (w : Which) (n : Size) (s : Spot) : Type 0 where
+  pub sought : list-parts.Sought h ws (list-parts.findAim h w n) s
+  pub sized : good-size (list.arenaOf h) w (n .0) ≡ true
+  pub there : eqb (s .here .base .0) 0 ≡ false
+
+-- An entry of a sound table that a find of a good size has chosen.
+pub record BlockChosen (k : BlockLand) (vs : List ℕ) (w : Which) (n : Size) (e : Entry) : Type 0 where
+  pub aimed : block-parts.Aimed k vs (block-parts.findAim k w n) e
+  pub sized : good-size (block.arenaOf k vs) w (n .0) ≡ true
+  pub there : eqb (e .here .base .0) 0 ≡ false
+
+-- A find of one land as a find of the pair: the other land's handle stays.
+abbrev pub listFound : Pair → list-calls.LandDone → Found
+listFound p d = record { pair = record { list = d .handle; block = p .block }; answer = d .out .answer; range = struct (d .out .found); old = struct (d .out .old) }
+
+abbrev pub blockFound : Pair → block-calls.LandDone → Found
+blockFound p d = record { pair = record { list = p .list; block = d .handle }; answer = d .out .answer; range = struct (d .out .found); old = struct (d .out .old) }
