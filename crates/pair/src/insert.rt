@@ -76,11 +76,10 @@ impl Pair {
             block_edits::Edited::Full => self.enter_list(words, range, spot),
             block_edits::Edited::Done(fresh, count) => {
                 let bytes = block.bytes.plus(range.size());
+                let block = block.close(count, bytes);
+                let pair = Pair { list, block };
                 Changed {
-                    pair: Pair {
-                        list,
-                        block: block.close(count, bytes),
-                    },
+                    pair,
                     answer: 0,
                     range: fresh,
                 }

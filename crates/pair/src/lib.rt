@@ -3,9 +3,9 @@
 // Every call takes every pair of handles, every lent memory and every number. A refused call returns empty ranges and the
 // handles that it was given, and changes no word of either memory. Every function here is proved, and the crate assumes
 // nothing of its own.
-mod insert;
 mod delete;
 mod find;
+mod insert;
 
 use block_land::BlockLand;
 use block_words::Entry;
