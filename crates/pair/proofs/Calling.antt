@@ -2,7 +2,7 @@
 use Prim.Native.Nat.{ℕ}
 use mathlib.Core.Bool.{Bool, true, false, not, cond, _&&_}
 use mathlib.Core.List.{List}
-use mathlib.Core.Path.{_≡_, refl, sym, ap, _∙_}
+use mathlib.Core.Path.{_≡_, refl}
 use native.Mathlib.Omega.{arith}
 use lib.Dec.{eqb}
 use borrow.Author.Tests.{not-true, not-false}
@@ -26,7 +26,7 @@ use Rattle.block_land.proofs.LayoutLaws as block-laws
 use Rattle.flush.specs.Flush.{sameArena}
 use Rattle.flush.specs.Flush as flush-check
 use Rattle.flush.specs.declared.FlushCheck.{FlushCheck}
-use Rattle.pair_model.specs.Pairs.{Both, both, PairCall, Sets, keep, pair-step}
+use Rattle.pair_model.specs.Pairs.{both, PairCall, Sets, keep, pair-step}
 use Rattle.pair_model.specs.PairLayouts.{meet, pair-read}
 use Rattle.pair.specs.Calls.{lands, PairDone, called, changed, foundOf, refusedBy, foundNone}
 use Rattle.pair.specs.Parts.{setUp, sound, checkOf, Checked}

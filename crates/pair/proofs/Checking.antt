@@ -1,13 +1,12 @@
 -- The checks of a call of a pair: their ways out, and what they say of both lands. Assumes nothing.
-use Prim.Native.Nat.{ℕ, _≤_}
-use mathlib.Core.Bool.{Bool, true, false, not, cond, _&&_, and-false}
+use Prim.Native.Nat.{ℕ}
+use mathlib.Core.Bool.{Bool, true, false, cond, _&&_, and-false}
 use mathlib.Core.List.{List, [], _∷_}
 use mathlib.Core.Logic.{⊎-elim}
-use mathlib.Core.Path.{_≡_, refl, sym, ap, _∙_}
+use mathlib.Core.Path.{_≡_, sym, _∙_}
 use native.Mathlib.Omega.{arith}
 use types.Run.{OneOf}
 use denote.Enum.Declared.{tagOf}
-use borrow.Author.Tests.{not-true, not-false}
 use Rattle.units.specs.Rules.{setUpOf}
 use Rattle.units.specs.Words.{rangeOf}
 use Rattle.units.specs.declared.Range.{Range}
@@ -37,7 +36,7 @@ use Rattle.flush.proofs.FlushKeeps.{OneArena, one-arena}
 use Rattle.flush.proofs.FlushAnswers.{going}
 use Rattle.pair_model.specs.PairLayouts.{meet}
 use Rattle.pair.specs.Calls.{refusedBy, foundNone}
-use Rattle.pair.specs.Parts.{setUp, sound, checkOf, Checked}
+use Rattle.pair.specs.Parts.{setUp, sound, checkOf}
 use Rattle.pair.specs.declared.Pair.{Pair}
 use Rattle.pair.specs.declared.PairCheck.{PairCheck}
 

@@ -1,5 +1,5 @@
 -- The ways out of a delete in a pair that was checked: 4; in the list; in the table; 7 and 1. Assumes nothing.
-use Prim.Native.Nat.{ℕ, _-_, _≤_, _<_}
+use Prim.Native.Nat.{ℕ, _-_, _≤_}
 use mathlib.Core.Bool.{Bool, true, false}
 use mathlib.Core.List.{List, [], _∷_}
 use mathlib.Core.Path.{_≡_, refl, sym, subst, _∙_}
@@ -7,16 +7,15 @@ use native.Mathlib.Omega.{arith}
 use types.Run.{OneOf}
 use denote.Enum.Declared.{tagOf}
 use borrow.Author.Tests.{not-false}
-use Rattle.units.specs.Rules.{goodAlign, rangeCheck}
+use Rattle.units.specs.Rules.{rangeCheck}
 use Rattle.units.specs.declared.Range as units
 use Rattle.units.specs.declared.Size.{Size}
 use Rattle.units.specs.declared.rules.Arena as units-arena
 use Rattle.units.specs.declared.rules.RangeCheck.{RangeCheck}
 use Rattle.units.proofs.rules.RangeCheck as range-type
-use Rattle.model.specs.Calls.{good-range, accepted}
+use Rattle.model.specs.Calls.{accepted}
 use Rattle.model.specs.Marks.{Range, rng, struct}
 use Rattle.model.specs.Lists.{holds, holder}
-use Rattle.model.proofs.Checks.{range-bad, range-good}
 use Rattle.model.proofs.Totals.{total-delete}
 use Rattle.list_words.specs.Laying.{lay}
 use Rattle.list_words.specs.declared.Spot.{Spot}
@@ -25,7 +24,6 @@ use Rattle.list_land.specs.Layout as list
 use Rattle.list_land.specs.Parts.{reachLimit}
 use Rattle.list_land.specs.declared.ListLand.{ListLand}
 use Rattle.list_land.proofs.LayoutLaws as list-laws
-use Rattle.list_land.proofs.Sound as list-sound
 use Rattle.block_words.specs.Words.{fill}
 use Rattle.block_words.specs.declared.Entry.{Entry}
 use Rattle.block_edits.specs.Edits.{Sorted, cutOf, cutWords}
@@ -37,7 +35,6 @@ use Rattle.block_land.specs.Parts as block-parts
 use Rattle.block_land.specs.declared.BlockLand.{BlockLand}
 use Rattle.block_land.proofs.EditAnswers as edits
 use Rattle.block_land.proofs.LayoutLaws as block-laws
-use Rattle.block_land.proofs.Sound as block-sound
 use Rattle.pair_model.specs.Pairs.{both, delete, pair-step}
 use Rattle.pair.specs.Calls.{called, changed, deleted, refusedBy}
 use Rattle.pair.specs.Deletes.{begins, listLess, tableLess, listHandle, listWords, Listed, Asked, Unlisted, Spilling, Nowhere}
@@ -45,8 +42,8 @@ use Rattle.pair.specs.Parts.{checkOf, Checked}
 use Rattle.pair.specs.declared.Changed.{Changed}
 use Rattle.pair.specs.declared.Pair.{Pair}
 use Rattle.pair.specs.declared.PairCheck.{PairCheck}
-use Rattle.pair.proofs.Calling.{answers-5, answers-6, list-sought, block-aimed, refuses, accepts, refuse-change}
-use Rattle.pair.proofs.Checking.{same-up}
+use Rattle.pair.proofs.Asking.{asked-4, list-fine, block-fine, readable, order, list-good}
+use Rattle.pair.proofs.Calling.{answers-5, answers-6, list-sought, block-aimed, accepts, refuse-change}
 use Rattle.pair.proofs.DeleteLists.{listed-holds, listed-here}
 use Rattle.pair.proofs.ReachedHere.{begins-holds, spot-reach}
 
@@ -72,43 +69,14 @@ module _ (p : Pair) (ws vs : List ℕ) (y : units.Range) (s : Spot) (e : Entry) 
   qs = block.tableOf (p .block) vs
 
   -- THE RANGE RULE
-  module _ (k : Checked p ws vs (reachLimit y) s e) (a : units-arena.Arena) (ea : a ≡ block-parts.arenaIn (p .block)) where
-    pub asked-align : goodAlign (a .align .0) ≡ true
-    asked-align = rw ea (edits.aimed-align (p .block) vs (reachLimit y) e (block-aimed p ws vs (reachLimit y) s e k))
-
-    module _ (a' : units-arena.Arena) (ea' : a' ≡ a) where
-      pub asked-positive : 0 < a' .align .0
-      asked-positive = edits.aimed-positive (p .block) vs (reachLimit y) e (block-aimed p ws vs (reachLimit y) s e k) a' (ea' ∙ ea)
-
-      module _ (r : RangeCheck) (er : r ≡ rangeCheck (a' .base .0) (a' .limit .0) (a' .align .0) (y .base .0) (y .limit .0)) where
-        pub asked-4 : OneOf (1 ∷ 2 ∷ 3 ∷ 4 ∷ []) (tagOf range-type.the-type r) → (w : Changed) → w ≡ refusedBy p 4 → Deletes p ws vs y w ws vs
-        asked-4 t w ew =
-            let g = range-bad (block.arenaOf (p .block) vs) a' (ea' ∙ ea) y r er t in
-            refuse-change p ws vs (deleted p ws vs y) 4
-            (is-delete p ws vs y ∙ refuses p ws vs (reachLimit y) s e k (delete b l) 4 refl (rw g)) w ew ws vs refl refl
-
-        pub asked-good : r ≡ RangeCheck.Good → Asked p ws vs y s e
-        asked-good f = record { checked = k; good = range-good (block.arenaOf (p .block) vs) a' (ea' ∙ ea) y r er f }
+  module _ (k : Checked p ws vs (reachLimit y) s e) (a : units-arena.Arena) (ea : a ≡ block-parts.arenaIn (p .block)) (a' : units-arena.Arena) (ea' : a' ≡ a)
+      (r : RangeCheck) (er : r ≡ rangeCheck (a' .base .0) (a' .limit .0) (a' .align .0) (y .base .0) (y .limit .0)) where
+    pub delete-4 : OneOf (1 ∷ 2 ∷ 3 ∷ 4 ∷ []) (tagOf range-type.the-type r) → (w : Changed) → w ≡ refusedBy p 4 → Deletes p ws vs y w ws vs
+    delete-4 t w ew =
+        refuse-change p ws vs (deleted p ws vs y) 4
+        (is-delete p ws vs y ∙ asked-4 p ws vs y s e k a ea a' ea' r er (delete b l) (λ g. rw g) t) w ew ws vs refl refl
 
   module _ (k : Asked p ws vs y s e) where
-    pub list-fine : list-sound.Fine (p .list) ws
-    list-fine = let f = list-sought p ws vs (reachLimit y) s e (k .checked) in list-sound.fine (p .list) ws (f .good) (f .whole)
-
-    pub block-fine : block-sound.Fine (p .block) vs
-    block-fine = let f = block-aimed p ws vs (reachLimit y) s e (k .checked) in block-sound.fine (p .block) vs (f .good) (f .whole)
-
-    pub readable : block-parts.Readable (p .block) vs
-    readable = edits.readable (p .block) vs (reachLimit y) e (block-aimed p ws vs (reachLimit y) s e (k .checked))
-
-    pub order : y .base .0 < y .limit .0
-    order = edits.edit-order (p .block) vs y readable (k .good)
-
-    pub order-le : y .base .0 ≤ y .limit .0
-    order-le = edits.edit-order-le (p .block) vs y readable (k .good)
-
-    pub list-good : good-range (list.arenaOf (p .list)) (y .base .0) (y .limit .0) ≡ true
-    list-good = let o = same-up p ws vs (k .checked .good) in rw (o .base, o .limit, o .align) (k .good)
-
     -- an accepted step, with the handles and the words that it leaves
     pub does : (f : Range) (rs' qs' : List Range) →
         pair-step (block.arenaOf (p .block) vs) (delete b l) (both rs qs) ≡ record { out = accepted f (rng 0 0); next = both rs' qs' } →
@@ -122,29 +90,29 @@ module _ (p : Pair) (ws vs : List ℕ) (y : units.Range) (s : Spot) (e : Entry) 
     -- IN THE LIST
     module _ (t : Bool) (et : t ≡ begins y (s .here)) where
       pub in-list-at : t ≡ true → Listed (p .list) ws y s
-      in-list-at f = record { sought = list-sought p ws vs (reachLimit y) s e (k .checked); good = list-good; here = sym et ∙ f }
+      in-list-at f = record { sought = list-sought p ws vs (reachLimit y) s e (k .checked); good = list-good p ws vs y s e k; here = sym et ∙ f }
 
       pub in-list-0 : t ≡ true → (h : ListLand) (ws' : List ℕ) → (h ≡ listHandle (p .list) (listLess (p .list) ws y)) × (ws' ≡ listWords (p .list) (listLess (p .list) ws y) ws) →
           Deletes p ws vs y (record { pair = record { list = h; block = p .block }; answer = 0; range = s .here }) ws' vs
       in-list-0 f h ws' g =
           let at = in-list-at f in
           does (holder b l rs) (listLess (p .list) ws y) qs (rw (k .good, listed-holds (p .list) ws y s at))
-          (s .here) (listed-here (p .list) ws y s at) h (g .0) (p .block) (sym (block-laws.handle-back (p .block) vs block-fine))
-          ws' vs (g .1) (sym (block-laws.words-back (p .block) vs block-fine))
+          (s .here) (listed-here (p .list) ws y s at) h (g .0) (p .block) (sym (block-laws.handle-back (p .block) vs (block-fine p ws vs y s e k)))
+          ws' vs (g .1) (sym (block-laws.words-back (p .block) vs (block-fine p ws vs y s e k)))
 
       pub not-in-list : t ≡ false → Unlisted p ws vs y s e
       not-in-list f =
-          let z = list-fine .place .arena .above in
-          let q = spot-reach (y .limit) (list.base (p .list)) (list.limit (p .list)) rs z (list-fine .apart) s (k .checked .spot) in
+          let z = list-fine p ws vs y s e k .place .arena .above in
+          let q = spot-reach (y .limit) (list.base (p .list)) (list.limit (p .list)) rs z (list-fine p ws vs y s e k .apart) s (k .checked .spot) in
           record {
             asked = k;
-            unlisted = sym (begins-holds y (list.base (p .list)) (list.limit (p .list)) rs z order (list-fine .apart)) ∙ (rw q at (sym et ∙ f));
+            unlisted = sym (begins-holds y (list.base (p .list)) (list.limit (p .list)) rs z (order p ws vs y s e k) (list-fine p ws vs y s e k .apart)) ∙ (rw q at (sym et ∙ f));
           }
 
   -- IN THE TABLE
   module _ (u : Unlisted p ws vs y s e) where
     pub cut-sorted : Sorted vs (p .block .ranges)
-    cut-sorted = edits.sorted (p .block) vs (readable (u .asked))
+    cut-sorted = edits.sorted (p .block) vs (readable p ws vs y s e (u .asked))
 
     pub cut-spot : places.Spot vs (p .block .ranges) (y .limit .0) (e .number)
     cut-spot = edits.aimed-spot (p .block) vs (y .limit) e (block-aimed p ws vs (reachLimit y) s e (u .asked .checked))
@@ -173,17 +141,17 @@ module _ (p : Pair) (ws vs : List ℕ) (y : units.Range) (s : Spot) (e : Entry) 
 
       module _ (x : units.Range) (m : ℕ) (f : v ≡ Edited.Done x m) (z : Size) (ez : z .0 ≡ y .limit .0 - y .base .0) where
         pub cut-room : z .0 ≤ p .block .bytes .0
-        cut-room = edits.delete-room (p .block) vs y (readable (u .asked)) (u .asked .good) v vs' d x m f z ez
+        cut-room = edits.delete-room (p .block) vs y (readable p ws vs y s e (u .asked)) (u .asked .good) v vs' d x m f z ez
 
         pub cut-0 : (t : Size) → t .0 ≡ p .block .bytes .0 - z .0 → (h : BlockLand) → h ≡ block-parts.closedWith (p .block) m t →
             Deletes p ws vs y (record { pair = record { list = p .list; block = h }; answer = 0; range = x }) ws vs'
         cut-0 t et h eh =
             let q = sym (d .0) ∙ f in
             let o = cut-done vs (p .block .ranges) y x m q in
-            let lf = list-fine (u .asked) in
+            let lf = list-fine p ws vs y s e (u .asked) in
             let c = not-false (holds b l qs) (o .good) in
-            let bf = block-fine (u .asked) in
-            let left = total-delete b l (block.base (p .block)) (block.limit (p .block)) qs (order (u .asked)) (bf .apart) c in
+            let bf = block-fine p ws vs y s e (u .asked) in
+            let left = total-delete b l (block.base (p .block)) (block.limit (p .block)) qs (order p ws vs y s e (u .asked)) (bf .apart) c in
             let bytes = bf .bytes in
             does (u .asked) (holder b l qs) rs (tableLess (p .block) vs y) (rw (u .asked .good, u .unlisted, c, o .fits))
             x (o .range) (p .list) (sym (list-laws.handle-back (p .list) ws rs lf refl))

@@ -27,7 +27,8 @@ use Rattle.pair.specs.Deletes.{Asked, Nowhere}
 use Rattle.pair.specs.declared.Changed.{Changed}
 use Rattle.pair.specs.declared.Pair.{Pair}
 use Rattle.pair.proofs.Calling.{flush-checked, refuses, refuse-change}
-use Rattle.pair.proofs.DeleteAnswers.{is-delete, Deletes, list-fine, block-fine, readable, order-le}
+use Rattle.pair.proofs.Asking.{list-fine, block-fine, readable, order-le}
+use Rattle.pair.proofs.DeleteAnswers.{is-delete, Deletes}
 
 module _ (p : Pair) (ws vs : List ℕ) (y : units.Range) (k : Nowhere p ws vs y) where
   abbrev s : Spot

@@ -1,16 +1,14 @@
 -- A flushed pair, and a range that enters it: the ways out of `Pair::flushed`, `Pair::enter_list` and `Pair::enter`. Assumes nothing.
-use Prim.Native.Nat.{ℕ, _+_, _-_, _≤_, _<_}
-use mathlib.Core.Bool.{true, false}
+use Prim.Native.Nat.{ℕ, _+_, _-_, _<_}
+use mathlib.Core.Bool.{true}
 use mathlib.Core.List.{List}
 use mathlib.Core.Path.{_≡_, sym, ap, ap₂, _∙_}
 use native.Mathlib.Omega.{arith}
-use lib.ListN.{length}
 use Rattle.units.specs.declared.Range as units
 use Rattle.units.specs.declared.Size.{Size}
 use Rattle.units.specs.declared.aims.Aim.{Aim}
 use Rattle.units.specs.declared.rules.Arena.{Arena}
 use Rattle.units.proofs.Tests.{clash}
-use Rattle.model.specs.Lists.{total}
 use Rattle.model.specs.Marks.{Range}
 use Rattle.model.proofs.Totals.{total-insert}
 use Rattle.list_words.specs.Surveys.{walkOf, kept-of}

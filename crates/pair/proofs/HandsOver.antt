@@ -44,7 +44,8 @@ use Rattle.pair.specs.Deletes.{listMore, tableLess, listHandle, listWord
 use Rattle.pair.specs.declared.Pair.{Pair}
 use Rattle.pair.proofs.Calling.{apart, list-sought, flush-checked}
 use Rattle.pair.proofs.Checking.{same-up}
-use Rattle.pair.proofs.DeleteAnswers.{Deletes, block-fine, readable, order, does}
+use Rattle.pair.proofs.Asking.{block-fine, readable, order}
+use Rattle.pair.proofs.DeleteAnswers.{Deletes, does}
 use Rattle.pair.proofs.ReachedHere.{reach-holder, entry-reach}
 
 module _ (p : Pair) (ws vs : List ℕ) (y : units.Range) (s : Spot) (e : Entry) (k : Spilling p ws vs y s e) where

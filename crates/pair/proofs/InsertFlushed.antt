@@ -8,7 +8,7 @@ use lib.Dec.{leb}
 use lib.ListN.{length}
 use Rattle.units.specs.declared.Range as units
 use Rattle.units.proofs.Tests.{by, or-left, or-right, and-left}
-use Rattle.model.specs.Calls.{Arena, accepted}
+use Rattle.model.specs.Calls.{Arena}
 use Rattle.model.specs.Marks.{Range, rng, struct}
 use Rattle.model.specs.Lists.{Apart, marksOf, overlaps, holder, insert-in}
 use Rattle.model.specs.Flushing.{Flushes, flush}
@@ -32,13 +32,14 @@ use Rattle.flush.specs.Flush as flush-check
 use Rattle.flush.specs.Flush.{Done, flushed}
 use Rattle.flush.specs.declared.FlushCheck.{FlushCheck}
 use Rattle.flush.proofs.FlushKeeps as keeps
-use Rattle.pair_model.specs.Pairs.{both, insert}
+use Rattle.pair_model.specs.Pairs.{insert}
 use Rattle.pair_model.proofs.InsertTurns.{no-overlap}
 use Rattle.pair.specs.Inserts.{flushedPair, entered, enteredWords, enteredNodes, Open, Bare}
 use Rattle.pair.specs.declared.Changed.{Changed}
 use Rattle.pair.specs.declared.Pair.{Pair}
+use Rattle.pair.proofs.Asking.{order, list-good}
 use Rattle.pair.proofs.Calling.{flush-checked, accepts}
-use Rattle.pair.proofs.Inserting.{is-insert, Inserts, order, list-good}
+use Rattle.pair.proofs.Inserting.{is-insert, Inserts}
 
 -- a sound list ends clean
 sound-clean : (h : ListLand) (ws : List ℕ) → list.sound h ws ≡ true → isClean (list.walkOf h ws .end) ≡ true

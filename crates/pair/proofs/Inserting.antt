@@ -5,16 +5,13 @@ use mathlib.Core.List.{List, [], _∷_}
 use mathlib.Core.Path.{_≡_, refl, sym, _∙_}
 use types.Run.{OneOf}
 use denote.Enum.Declared.{tagOf}
-use Rattle.units.specs.Rules.{goodAlign, rangeCheck}
+use Rattle.units.specs.Rules.{rangeCheck}
 use Rattle.units.specs.declared.Range as units
 use Rattle.units.specs.declared.rules.Arena as units-arena
 use Rattle.units.specs.declared.rules.RangeCheck.{RangeCheck}
 use Rattle.units.proofs.rules.RangeCheck as range-type
-use Rattle.model.specs.Calls.{good-range}
 use Rattle.model.specs.Marks.{Range}
 use Rattle.model.specs.Lists.{overlaps}
-use Rattle.model.proofs.Checks.{range-bad, range-good}
-use Rattle.model.proofs.Requests.{range-rules}
 use Rattle.list_words.specs.declared.Chain.{Chain}
 use Rattle.list_words.specs.declared.Spot.{Spot}
 use Rattle.list_edits.specs.Chains.{metOf, Held, mayAsk}
@@ -35,8 +32,8 @@ use Rattle.pair.specs.Parts.{checkOf, Checked}
 use Rattle.pair.specs.declared.Changed.{Changed}
 use Rattle.pair.specs.declared.Pair.{Pair}
 use Rattle.pair.specs.declared.PairCheck.{PairCheck}
+use Rattle.pair.proofs.Asking.{asked-4, readable, order, list-good}
 use Rattle.pair.proofs.Calling.{saw-checked, answers-5, answers-6, list-sought, block-aimed, refuses, refuse-change}
-use Rattle.pair.proofs.Checking.{same-up}
 
 pub is-insert : (p : Pair) (ws vs : List ℕ) (y : units.Range) → inserted p ws vs y ≡ called (insert (y .base .0) (y .limit .0)) p ws vs
 unfolding inserted
@@ -60,40 +57,23 @@ module _ (p : Pair) (ws vs : List ℕ) (y : units.Range) (s : Spot) where
   qs = block.tableOf (p .block) vs
 
   -- THE RANGE RULE
-  module _ (e : Entry) (k : Checked p ws vs (reachBase y) s e) (a : units-arena.Arena) (ea : a ≡ block-parts.arenaIn (p .block)) where
-    pub wanted-align : goodAlign (a .align .0) ≡ true
-    wanted-align = rw ea (edits.aimed-align (p .block) vs (reachBase y) e (block-aimed p ws vs (reachBase y) s e k))
-
-    module _ (a' : units-arena.Arena) (ea' : a' ≡ a) where
-      pub wanted-positive : 0 < a' .align .0
-      wanted-positive = edits.aimed-positive (p .block) vs (reachBase y) e (block-aimed p ws vs (reachBase y) s e k) a' (ea' ∙ ea)
-
-      module _ (r : RangeCheck) (er : r ≡ rangeCheck (a' .base .0) (a' .limit .0) (a' .align .0) (y .base .0) (y .limit .0)) where
-        pub wanted-4 : OneOf (1 ∷ 2 ∷ 3 ∷ 4 ∷ []) (tagOf range-type.the-type r) → (w : Changed) → w ≡ refusedBy p 4 → Inserts p ws vs y w ws vs
-        wanted-4 t w ew =
-            let g = range-bad (block.arenaOf (p .block) vs) a' (ea' ∙ ea) y r er t in
-            refuse-change p ws vs (inserted p ws vs y) 4
-            (is-insert p ws vs y ∙ refuses p ws vs (reachBase y) s e k (insert b l) 4 refl (rw g)) w ew ws vs refl refl
-
-        pub wanted-good : r ≡ RangeCheck.Good → Wanted p ws vs y s e
-        wanted-good f = record { checked = k; good = range-good (block.arenaOf (p .block) vs) a' (ea' ∙ ea) y r er f }
+  module _ (e : Entry) (k : Checked p ws vs (reachBase y) s e) (a : units-arena.Arena) (ea : a ≡ block-parts.arenaIn (p .block)) (a' : units-arena.Arena) (ea' : a' ≡ a)
+      (r : RangeCheck) (er : r ≡ rangeCheck (a' .base .0) (a' .limit .0) (a' .align .0) (y .base .0) (y .limit .0)) where
+    pub insert-4 : OneOf (1 ∷ 2 ∷ 3 ∷ 4 ∷ []) (tagOf range-type.the-type r) → (w : Changed) → w ≡ refusedBy p 4 → Inserts p ws vs y w ws vs
+    insert-4 t w ew =
+        refuse-change p ws vs (inserted p ws vs y) 4
+        (is-insert p ws vs y ∙ asked-4 p ws vs y s e k a ea a' ea' r er (insert b l) (λ g. rw g) t) w ew ws vs refl refl
 
   -- WHETHER A BYTE IS FREE
   module _ (e : Entry) (k : Wanted p ws vs y s e) where
-    pub order : y .base .0 < y .limit .0
-    order = range-rules (block.arenaOf (p .block) vs) b l (k .good) .order
-
-    pub list-good : good-range (list.arenaOf (p .list)) (y .base .0) (y .limit .0) ≡ true
-    list-good = let o = same-up p ws vs (k .checked .good) in rw (o .base, o .limit, o .align) (k .good)
-
     pub table-asks : Sorted vs (p .block .ranges) × ((y .base .0 < y .limit .0) × places.Spot vs (p .block .ranges) (y .base .0) (e .number))
     table-asks =
         let m = block-aimed p ws vs (reachBase y) s e (k .checked) in
-        (edits.sorted (p .block) vs (edits.readable (p .block) vs (reachBase y) e m), (order, edits.aimed-spot (p .block) vs (y .base) e m))
+        (edits.sorted (p .block) vs (readable p ws vs y s e k), (order p ws vs y s e k, edits.aimed-spot (p .block) vs (y .base) e m))
 
     module _ (a : units-arena.Arena) (ea : a ≡ list-parts.arenaIn (p .list)) (c : Chain) (ec : c ≡ list-parts.chainIn (p .list)) where
       pub list-asks : Held a ws c (reachBase y) s × (mayAsk a y ≡ true)
-      list-asks = (list-requests.sought-held (p .list) ws (reachBase y) s (list-sought p ws vs (reachBase y) s e (k .checked)) a ea c ec, rw ea list-good)
+      list-asks = (list-requests.sought-held (p .list) ws (reachBase y) s (list-sought p ws vs (reachBase y) s e (k .checked)) a ea c ec, rw ea (list-good p ws vs y s e k))
 
       module _ (t : Bool) (et : t ≡ overlaps (y .base .0) (y .limit .0) (metOf a ws c)) where
         in-list : t ≡ overlaps b l rs
@@ -114,7 +94,7 @@ module _ (p : Pair) (ws vs : List ℕ) (y : units.Range) (s : Spot) where
       pub not-taken : t ≡ false → Bare p ws vs y s
       not-taken f = record { entry = e; wanted = k; none = sym et ∙ f }
 
-pub ruleset inserts = (wanted-align, wanted-positive, wanted-4, wanted-good, table-asks, list-asks, taken-list, taken-table, taken-1, not-taken)
+pub ruleset inserts = (taken-list, taken-table)
 
 -- THE CHECKS
 module _ (p : Pair) (ws vs : List ℕ) (y : units.Range) (v : PairCheck) (ev : v ≡ checkOf p ws vs (reachBase y)) where

@@ -20,7 +20,7 @@ use Rattle.block_edits.specs.Places.{Holding}
 use Rattle.block_land.specs.Layout as block
 use Rattle.block_land.specs.Parts.{Readable}
 use Rattle.block_land.specs.declared.BlockLand.{BlockLand}
-use Rattle.pair.specs.Parts.{Checked}
+use Rattle.pair.specs.Parts.{Ranged}
 use Rattle.pair.specs.declared.Pair.{Pair}
 
 -- There is a range, and it begins at or below the request.
@@ -71,9 +71,8 @@ pub record Lowering (k : BlockLand) (vs : List ℕ) (i : ℕ) (y : units.Range) 
 
 module _ (p : Pair) (ws vs : List ℕ) (y : units.Range) (s : Spot) (e : Entry) where
   -- A good request to a pair that was checked.
-  pub record Asked : Type 0 where
-    pub checked : Checked p ws vs (reachLimit y) s e
-    pub good : good-range (block.arenaOf (p .block) vs) (y .base .0) (y .limit .0) ≡ true
+  abbrev pub Asked : Type 0
+  Asked = Ranged p ws vs (reachLimit y) y s e
 
   -- The list does not hold it.
   pub record Unlisted : Type 0 where

@@ -8,7 +8,6 @@ use lib.ListN.{length}
 use Rattle.units.specs.declared.Range as units
 use Rattle.model.specs.Marks.{Range, struct}
 use Rattle.model.specs.Lists.{overlaps, holder, insert-in}
-use Rattle.model.specs.Calls.{good-range}
 use Rattle.list_words.specs.Laying.{lay}
 use Rattle.list_words.specs.declared.Spot.{Spot}
 use Rattle.list_land.specs.Layout as list
@@ -21,7 +20,7 @@ use Rattle.block_land.specs.Layout as block
 use Rattle.flush.specs.Flush.{flushed}
 use Rattle.pair_model.specs.Pairs.{both, any-free}
 use Rattle.pair_words.specs.Lefts.{Left}
-use Rattle.pair.specs.Parts.{Checked}
+use Rattle.pair.specs.Parts.{Ranged}
 use Rattle.pair.specs.declared.Changed.{Changed}
 use Rattle.pair.specs.declared.Pair.{Pair}
 
@@ -92,9 +91,8 @@ module _ (p : Pair) (ws vs : List ℕ) (y : units.Range) (s : Spot) where
   takenIn = any-free (y .base .0) (y .limit .0) (both (list.walkOf (p .list) ws .met) (block.tableOf (p .block) vs))
 
   -- A request that keeps the rules, to a pair that was checked.
-  pub record Wanted (e : Entry) : Type 0 where
-    pub checked : Checked p ws vs (reachBase y) s e
-    pub good : good-range (block.arenaOf (p .block) vs) (y .base .0) (y .limit .0) ≡ true
+  abbrev pub Wanted : Entry → Type 0
+  Wanted e = Ranged p ws vs (reachBase y) y s e
 
   -- No byte of it is free.
   pub record Bare : Type 0 where

@@ -3,7 +3,9 @@ use Prim.Native.Nat.{ℕ}
 use mathlib.Core.Bool.{Bool, true, not, cond, _&&_}
 use mathlib.Core.List.{List}
 use mathlib.Core.Path.{_≡_}
+use Rattle.units.specs.declared.Range.{Range}
 use Rattle.units.specs.declared.aims.Aim.{Aim}
+use Rattle.model.specs.Calls.{good-range}
 use Rattle.list_words.specs.Surveys.{kept-of}
 use Rattle.list_words.specs.declared.Spot.{Spot}
 use Rattle.list_land.specs.Layout as list
@@ -44,3 +46,8 @@ pub record Checked (p : Pair) (ws vs : List ℕ) (aim : Aim) (s : Spot) (e : Ent
   pub whole : sound p ws vs ≡ true
   pub spot : s ≡ kept-of aim (list.walkOf (p .list) ws .met)
   pub entry : e ≡ entryOf aim (block.tableOf (p .block) vs)
+
+-- A request that keeps the range rule, to a pair that was checked.
+pub record Ranged (p : Pair) (ws vs : List ℕ) (aim : Aim) (y : Range) (s : Spot) (e : Entry) : Type 0 where
+  pub checked : Checked p ws vs aim s e
+  pub good : good-range (block.arenaOf (p .block) vs) (y .base .0) (y .limit .0) ≡ true

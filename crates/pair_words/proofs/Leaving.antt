@@ -1,5 +1,5 @@
 -- The first range that reaches an address in the rest of a list: the ways out of `spot_left`. Assumes nothing.
-use Prim.Native.Nat.{ℕ, suc, _≤_, _<_}
+use Prim.Native.Nat.{ℕ, suc, _<_}
 use mathlib.Core.Bool.{Bool, true, false, not}
 use mathlib.Core.List.{List, [], _∷_, _++_}
 use mathlib.Core.Path.{_≡_, refl, sym, ap, ap₂, subst, _∙_}
@@ -25,7 +25,7 @@ use Rattle.list_words.specs.declared.Met.{Met}
 use Rattle.list_words.specs.declared.Spot.{Spot}
 use Rattle.list_words.proofs.Met as met-type
 use Rattle.pair_words.specs.Lefts.{Left}
-use Rattle.pair_words.proofs.Walking.{Coming, coming-start, start-rest, coming-none, First, first, at-first, first-apart, coming-never, end-is, next-head}
+use Rattle.pair_words.proofs.Walking.{Coming, coming-start, start-rest, coming-none, first, at-first, first-apart, coming-never, end-is, next-head}
 
 abbrev range : Range → ranges.Range
 range r = rangeOf (r .base) (r .limit)

@@ -1,5 +1,5 @@
 -- The bytes of a range that are in sorted ranges: the sums of the loops of `list_share` and `table_share`, and the ways out of `common`. Assumes nothing.
-use Prim.Native.Nat.{ℕ, suc, _+_, _-_, _/_, _≤_, _<_}
+use Prim.Native.Nat.{ℕ, _+_, _-_, _/_, _≤_, _<_}
 use mathlib.Core.Bool.{Bool, true, false, not, cond}
 use mathlib.Core.List.{List, [], _∷_}
 use mathlib.Core.Path.{_≡_, sym, ap, ap₂, subst, _∙_}
@@ -8,7 +8,7 @@ use types.Run.{OneOf}
 use denote.Enum.Declared.{tagOf}
 use lib.Dec.{eqb, leb}
 use lib.ListN.{length}
-use borrow.Author.Tests.{leb-true, leb-false, le-leb, lt-leb}
+use borrow.Author.Tests.{leb-true, leb-false}
 use Rattle.units.specs.Words.{rangeOf}
 use Rattle.units.specs.declared.Addr.{Addr}
 use Rattle.units.specs.declared.Range as ranges
@@ -16,7 +16,7 @@ use Rattle.units.specs.declared.Size.{Size}
 use Rattle.units.specs.declared.rules.Arena as units
 use Rattle.units.proofs.Tests.{by, tests}
 use Rattle.units.proofs.Ways.{said-true, said-false}
-use Rattle.model.specs.Marks.{Range, size, plain, struct}
+use Rattle.model.specs.Marks.{Range, size, struct}
 use Rattle.model.specs.Lists.{Apart, total}
 use Rattle.model.proofs.Totals.{total-small}
 use Rattle.list_words.specs.Words.{stepAt}
@@ -28,7 +28,7 @@ use Rattle.block_words.specs.Tallies.{pairAt, behind}
 use Rattle.block_words.proofs.Pairs.{pairs-at, pairs-end}
 use Rattle.pair_model.specs.Pairs.{inside}
 use Rattle.pair_words.specs.Shares.{share, Listed, Tabled}
-use Rattle.pair_words.proofs.Walking.{Coming, left-over, coming-start, start-rest, coming-none, first, at-first, first-apart, coming-never, end-is, coming-next, next-rest, coming-less}
+use Rattle.pair_words.proofs.Walking.{Coming, left-over, coming-start, start-rest, coming-none, first, at-first, coming-never, end-is, coming-next, next-rest, coming-less}
 
 -- no more than the bytes of the ranges
 least : (p q : ℕ) → cond (leb p q) p q ≤ q

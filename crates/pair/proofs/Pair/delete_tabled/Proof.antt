@@ -1,5 +1,6 @@
 -- `Pair::delete_tabled` meets its contract: what the table's edit answers. Assumes nothing.
-use Rattle.pair.proofs.DeleteAnswers.{order, order-le, cut-sorted, cut-spot, none-holds, after-none, spills, after-spill, cut-room, cut-0}
+use Rattle.pair.proofs.Asking.{order, order-le}
+use Rattle.pair.proofs.DeleteAnswers.{cut-sorted, cut-spot, none-holds, after-none, spills, after-spill, cut-room, cut-0}
 use borrow.Author.Needs.{needs}
 use Rattle.pair.proofs.Pair.delete_tabled.Statement.{statement}
 use Rattle.pair.proofs.Pair.delete_tabled.Tie as tie

@@ -1,5 +1,6 @@
 -- `Pair::insert_at` meets its contract: 4, 1, and the range put in. Assumes nothing.
-use Rattle.pair.proofs.Inserting.{inserts, wanted-4, wanted-good, taken-1, not-taken}
+use Rattle.pair.proofs.Asking.{asked-align, asked-positive, asked-good}
+use Rattle.pair.proofs.Inserting.{insert-4, taken-1, not-taken}
 use borrow.Author.Needs.{needs}
 use Rattle.pair.proofs.Pair.insert_at.Statement.{statement}
 use Rattle.pair.proofs.Pair.insert_at.Tie as tie
@@ -8,10 +9,12 @@ arena-requires : tie.Need-arena-requires
 arena-requires c κs = search needs
 
 divided-requires : tie.Need-divided-requires
-divided-requires c κs = search inserts
+divided-requires c κs =
+    asked-align _ _ _ (c .before .before .before .args .range) _ _ (c .before .before .before .pre) _ (c .arena .ensures)
 
 check-range-requires : tie.Need-check-range-requires
-check-range-requires c κs = search inserts
+check-range-requires c κs =
+    asked-positive _ _ _ (c .before .before .before .before .args .range) _ _ (c .before .before .before .before .pre) _ (c .before .arena .ensures) _ (c .divided .ensures)
 
 enum-told : tie.Need-enum-told
 enum-told c = search needs
@@ -21,10 +24,11 @@ refused-requires c κs = search needs
 
 returns : tie.Need-returns
 returns c =
-    wanted-4 _ _ _ (c .before .before .before .before .before .before .before .args .range) _ _ (c .before .before .before .before .before .before .before .pre) _ (c .before .before .before .before .arena .ensures) _ (c .before .before .before .divided .ensures) _ (c .before .before .check-range .ensures) (c .before .match .keys2) _ (c .refused .ensures)
+    insert-4 _ _ _ (c .before .before .before .before .before .before .before .args .range) _ _ (c .before .before .before .before .before .before .before .pre) _ (c .before .before .before .before .arena .ensures) _ (c .before .before .before .divided .ensures) _ (c .before .before .check-range .ensures) (c .before .match .keys2) _ (c .refused .ensures)
 
 taken-requires : tie.Need-taken-requires
-taken-requires c κs = search inserts
+taken-requires c κs =
+    asked-good _ _ _ (c .before .before .before .before .before .before .before .before .before .args .range) _ _ (c .before .before .before .before .before .before .before .before .before .pre) _ (c .before .before .before .before .before .before .arena .ensures) _ (c .before .before .before .before .before .divided .ensures) _ (c .before .before .before .before .check-range .ensures) (c .before .before .enum-told .given .1)
 
 refused-requires-2 : tie.Need-refused-requires-2
 refused-requires-2 c κs = search needs
@@ -38,13 +42,13 @@ same-length-2 c = search needs
 returns-2 : tie.Need-returns-2
 returns-2 c =
     taken-1 _ _ _ (c .before .before .before .before .before .before .before .before .before .before .before .before .args .range) _ _
-    (wanted-good _ _ _ (c .before .before .before .before .before .before .before .before .before .before .before .before .args .range) _ _ (c .before .before .before .before .before .before .before .before .before .before .before .before .pre) _ (c .before .before .before .before .before .before .before .before .before .arena .ensures) _ (c .before .before .before .before .before .before .before .before .divided .ensures) _ (c .before .before .before .before .before .before .before .check-range .ensures) (c .before .before .before .before .before .enum-told .given .1))
+    (asked-good _ _ _ (c .before .before .before .before .before .before .before .before .before .before .before .before .args .range) _ _ (c .before .before .before .before .before .before .before .before .before .before .before .before .pre) _ (c .before .before .before .before .before .before .before .before .before .arena .ensures) _ (c .before .before .before .before .before .before .before .before .divided .ensures) _ (c .before .before .before .before .before .before .before .check-range .ensures) (c .before .before .before .before .before .enum-told .given .1))
     _ (c .before .before .taken .ensures) (c .before .if1 .taken) _ (c .refused2 .ensures)
 
 insert-bare-requires : tie.Need-insert-bare-requires
 insert-bare-requires c κs =
     not-taken _ _ _ (c .before .before .before .before .before .before .before .before .before .before .before .before .before .args .range) _ _
-    (wanted-good _ _ _ (c .before .before .before .before .before .before .before .before .before .before .before .before .before .args .range) _ _ (c .before .before .before .before .before .before .before .before .before .before .before .before .before .pre) _ (c .before .before .before .before .before .before .before .before .before .before .arena .ensures) _ (c .before .before .before .before .before .before .before .before .before .divided .ensures) _ (c .before .before .before .before .before .before .before .before .check-range .ensures) (c .before .before .before .before .before .before .enum-told .given .1))
+    (asked-good _ _ _ (c .before .before .before .before .before .before .before .before .before .before .before .before .before .args .range) _ _ (c .before .before .before .before .before .before .before .before .before .before .before .before .before .pre) _ (c .before .before .before .before .before .before .before .before .before .before .arena .ensures) _ (c .before .before .before .before .before .before .before .before .before .divided .ensures) _ (c .before .before .before .before .before .before .before .before .check-range .ensures) (c .before .before .before .before .before .before .enum-told .given .1))
     _ (c .before .before .before .taken .ensures) (c .before .before .if1 .left)
 
 same-length-3 : tie.Need-same-length-3
