@@ -79,13 +79,13 @@ module _ (p : Pair) (ws vs : List ℕ) (y : units.Range) (s : Spot) where
         in-list : t ≡ overlaps b l rs
         in-list = rw (ea, ec) at et
 
-        pub taken-list : t ≡ true → true ≡ takenIn p ws vs y s
+        pub taken-list : t ≡ true → true ≡ takenIn p ws vs y
         taken-list f = rw (sym in-list ∙ f)
 
-        pub taken-table : t ≡ false → (u : Bool) → u ≡ overlaps (y .base .0) (y .limit .0) (block.tableOf (p .block) vs) → u ≡ takenIn p ws vs y s
+        pub taken-table : t ≡ false → (u : Bool) → u ≡ overlaps (y .base .0) (y .limit .0) (block.tableOf (p .block) vs) → u ≡ takenIn p ws vs y
         taken-table f u eu = rw (sym in-list ∙ f) eu
 
-    module _ (t : Bool) (et : t ≡ takenIn p ws vs y s) where
+    module _ (t : Bool) (et : t ≡ takenIn p ws vs y) where
       pub taken-1 : t ≡ true → (w : Changed) → w ≡ refusedBy p 1 → Inserts p ws vs y w ws vs
       taken-1 f w ew =
           refuse-change p ws vs (inserted p ws vs y) 1

@@ -85,11 +85,11 @@ module _ (p : Pair) (ws vs : List ℕ) (y : units.Range) where
     pub upto : y .limit .0 ≤ 1099511627776
     pub clear : overlaps (y .base .0) (y .limit .0) (block.tableOf (p .block) vs) ≡ false
 
-module _ (p : Pair) (ws vs : List ℕ) (y : units.Range) (s : Spot) where
   -- Some byte of the range is free in either land.
   abbrev pub takenIn : Bool
   takenIn = any-free (y .base .0) (y .limit .0) (both (list.walkOf (p .list) ws .met) (block.tableOf (p .block) vs))
 
+module _ (p : Pair) (ws vs : List ℕ) (y : units.Range) (s : Spot) where
   -- A request that keeps the rules, to a pair that was checked.
   abbrev pub Wanted : Entry → Type 0
   Wanted e = Ranged p ws vs (reachBase y) y s e
@@ -98,4 +98,4 @@ module _ (p : Pair) (ws vs : List ℕ) (y : units.Range) (s : Spot) where
   pub record Bare : Type 0 where
     pub entry : Entry
     pub wanted : Wanted entry
-    pub none : takenIn ≡ false
+    pub none : takenIn p ws vs y ≡ false

@@ -90,7 +90,7 @@ impl Pair {
     // Whether some byte of the range is free in either land.
     fn taken(self, words: &[u64], nodes: &[u64], range: Range, spot: Spot, entry: Entry) -> bool
         requires { ⌜ Wanted self (now words) (now nodes) range spot entry ⌝ }
-        ensures { λ r. ⌜ r ≡ takenIn self (now (words .entry)) (now (nodes .entry)) range spot ⌝ }
+        ensures { λ r. ⌜ r ≡ takenIn self (now (words .entry)) (now (nodes .entry)) range ⌝ }
     {
         let list = self.list;
         if list_edits::overlaps_at(list.arena(), words, list.chain(), range, spot) {
