@@ -23,7 +23,7 @@
 extern "C" {
 #endif
 
-/* Answers, checked in the order 5, 6, 4, 1 or 2, 3. */
+/* Answers, checked in the order 5, 6, 4, 1 or 2, 3; on a pair 5, 6, 4, 1 or 2, 7. */
 enum {
     LG_OK = 0,      /* accepted */
     LG_OVERLAP = 1, /* insert: some byte is already free; delete: some byte is not free */
@@ -31,7 +31,8 @@ enum {
     LG_FULL = 3,    /* the block land would have more ranges than its capacity */
     LG_REQUEST = 4, /* the range, the size or the mode breaks the rules */
     LG_SET_UP = 5,  /* the handle's fixed fields or the lent lengths break the arena rules */
-    LG_DAMAGED = 6  /* the list or table is not sound */
+    LG_DAMAGED = 6, /* the list or table is not sound, or the lands of a pair overlap */
+    LG_IN_BOTH = 7  /* delete on a pair: every byte is free, but neither land holds all of them */
 };
 
 /* What a find takes out of the range that it finds. Any other number is answered 4. */
@@ -94,6 +95,23 @@ typedef struct lg_flushed {
     uint64_t answer, moved, stop;
 } lg_flushed;
 
+typedef struct lg_pair {
+    lg_list_land list;
+    lg_block_land block;
+} lg_pair;
+
+typedef struct lg_pair_changed {
+    lg_pair pair;
+    uint64_t answer;
+    lg_range range;
+} lg_pair_changed;
+
+typedef struct lg_pair_found {
+    lg_pair pair;
+    uint64_t answer;
+    lg_range range, old;
+} lg_pair_found;
+
 /* A land with no ranges. Base is not 0, base <= limit <= 2^40, both multiples of align; align is a power of two from 8 to
  * 4,096. No word is written. */
 lg_list_opened lg_list_open(uint64_t base, uint64_t limit, uint64_t align, const uint64_t *words, size_t n);
@@ -133,6 +151,27 @@ lg_block_changed lg_block_walk(lg_block_land land, const uint64_t *nodes, size_t
 /* Moves the list's ranges, in address order, into the block land of the same arena, until none is left (stop 0) or one is
  * refused (stop 1 or 3). `moved` is their number. No arena word changes. */
 lg_flushed lg_flush(lg_list_land list, const uint64_t *words, size_t n, lg_block_land block, uint64_t *nodes, size_t m);
+
+/* A pair: a list land and a block land of the same arena, each opened by its own call, with no byte free in both. What has
+ * no room in node space is kept in the list, so that no call answers 3. Free means free in either land. Between two calls
+ * the host may write the arena's words that are free in neither. A range that is returned is one of the land concerned.
+ *
+ * Insert: makes a range free that has no free byte. It first flushes the list, then inserts into the block land, and where
+ * that has no room into the list. */
+lg_pair_changed lg_pair_insert(lg_pair pair, uint64_t *words, size_t n, uint64_t *nodes, size_t m, lg_range range);
+
+/* Takes a range out of the land that holds all of it. Where the block land has no room for both ends that are left, the
+ * lower end stays there and the upper goes to the list. 1 if some byte is not free, else 7 if neither land holds it all. */
+lg_pair_changed lg_pair_delete(lg_pair pair, uint64_t *words, size_t n, uint64_t *nodes, size_t m, lg_range range);
+
+/* The lower of what the two lands find first; the higher of what they find last; the longer of their largest, the lower
+ * base among equals. Only the land that has it changes. A run of free bytes that lies in both lands is not found whole. */
+lg_pair_found lg_pair_find_first(lg_pair pair, uint64_t *words, size_t n, uint64_t *nodes, size_t m, uint64_t size,
+                                 uint64_t mode);
+lg_pair_found lg_pair_find_last(lg_pair pair, uint64_t *words, size_t n, uint64_t *nodes, size_t m, uint64_t size,
+                                uint64_t mode);
+lg_pair_found lg_pair_find_largest(lg_pair pair, uint64_t *words, size_t n, uint64_t *nodes, size_t m, uint64_t size,
+                                   uint64_t mode);
 
 #ifdef __cplusplus
 }
