@@ -2,13 +2,18 @@
 """Writes crates/land_cases/stdin and crates/land_cases/stdout: records for the list land, the block land, the flush and the
 pair, and what each must give.
 
-Run from the top of the repository: python3 tests/land_cases.py. The same files come out each time.
+    python3 tests/land_cases.py            writes them; the same files come out each time
+    python3 tests/land_cases.py --check    compares the stored files, and writes nothing
+
+Run from the top of the repository.
 
 The models follow the text of document 01, and of request K4 for the pair, and share no code with the Rattle code. Those of
 the block land and the flush were written from document 01 alone, before the code of these two. Those of the list land and of
 the pair were not written blind: their authors had read `units` and `list_land`, and the crates of the pair, before. What both
 lands share (set_model.py) was written from document 01 and the list's model.
 """
+
+import sys
 
 import block_model
 import block_records
@@ -49,7 +54,8 @@ def check(stops, ways):
     assert min(*seen.values(), *stops.values(), *ways.values()) >= 6
 
 
-def main():
+def written():
+    """The two files: the records, and what they must give."""
     list_records.write()
     block_records.write()
     flush_records.write()
@@ -57,16 +63,34 @@ def main():
     check(flush_records.stops_seen, pair_records.ways_seen)
     text = "\n".join(asked) + "\n"
     assert len(text) < MOST_BYTES
-    with open(FILES + "stdin", "w", encoding="ascii") as f:
-        f.write(text)
-    with open(FILES + "stdout", "w", encoding="ascii") as f:
-        f.write("\n".join(given) + "\n")
-    print(len(asked), "records,", len(text), "bytes")
+    return {"stdin": text, "stdout": "\n".join(given) + "\n"}
+
+
+def show():
+    print(len(asked), "records")
     for op, numbers in sorted(answers().items()):
         print("op", op, "answers", {n: seen[op, n] for n in numbers})
     print("stops", dict(sorted(flush_records.stops_seen.items())))
     print("ways", dict(sorted(pair_records.ways_seen.items())))
 
 
+def stored(name):
+    with open(FILES + name, encoding="ascii") as f:
+        return f.read()
+
+
+def main(arguments):
+    files = written()
+    if arguments == ["--check"]:
+        differ = [name for name, text in files.items() if stored(name) != text]
+        print("crates/land_cases:", "DIFFERS in " + ", ".join(differ) if differ else "as written")
+        return 1 if differ else 0
+    for name, text in files.items():
+        with open(FILES + name, "w", encoding="ascii") as f:
+            f.write(text)
+    show()
+    return 0
+
+
 if __name__ == "__main__":
-    main()
+    sys.exit(main(sys.argv[1:]))
