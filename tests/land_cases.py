@@ -1,13 +1,19 @@
 #!/usr/bin/env python3
-"""Writes crates/land_cases/stdin and crates/land_cases/stdout: records for the list land, the block land and the flush, and
-what each must give.
+"""Writes crates/land_cases/stdin and crates/land_cases/stdout: records for the list land, the block land, the flush and the
+pair, and what each must give.
 
-Run from the top of the repository: python3 tests/land_cases.py. The same files come out each time.
+    python3 tests/land_cases.py            writes them; the same files come out each time
+    python3 tests/land_cases.py --check    compares the stored files, and writes nothing
 
-The models follow the text of document 01 and share no code with the Rattle code. Those of the block land and the flush were
-written from document 01 alone, before the code of these two. That of the list land was not written blind: its author had
-read `units` and `list_land` before. What both lands share (set_model.py) was written from document 01 and the list's model.
+Run from the top of the repository.
+
+The models follow the text of document 01, and of request K4 for the pair, and share no code with the Rattle code. Those of
+the block land and the flush were written from document 01 alone, before the code of these two. Those of the list land and of
+the pair were not written blind: their authors had read `units` and `list_land`, and the crates of the pair, before. What both
+lands share (set_model.py) was written from document 01 and the list's model.
 """
+
+import sys
 
 import block_model
 import block_records
@@ -15,6 +21,8 @@ import flush_model
 import flush_records
 import list_model
 import list_records
+import pair_model
+import pair_records
 from records import asked, given, seen
 from set_model import DELETE, FINDS, INSERT, OPEN, WALK
 
@@ -24,8 +32,11 @@ MOST_BYTES = 262144
 
 
 def answers():
-    """The answers that each OP can give. A find in a block land never gives 3: it leaves no more ranges than there were."""
+    """The answers that each OP can give. A find in a block land never gives 3: it leaves no more ranges than there were. No call
+    of a pair does."""
     may = {flush_model.OP: (0, 5, 6)}
+    may.update({pair_model.FIRST_OP + op: n for op, n in ((INSERT, (0, 1, 4, 5, 6)), (DELETE, (0, 1, 4, 5, 6, 7)))})
+    may.update({pair_model.FIRST_OP + op: (0, 2, 4, 5, 6) for op in FINDS})
     for land, of_change in ((list_model, (0, 1, 4, 5, 6)), (block_model, (0, 1, 3, 4, 5, 6))):
         may[land.FIRST_OP + OPEN] = (0, 5)
         may[land.FIRST_OP + WALK] = (0, 2, 5, 6)
@@ -34,30 +45,52 @@ def answers():
     return may
 
 
-def check(stops):
-    """Every OP meets every answer that it can give, and no other; and the flush every stop."""
+def check(stops, ways):
+    """Every OP meets every answer that it can give, and no other; the flush every stop; and the pair's calls every way."""
     may = answers()
     assert set(seen) == {(op, n) for op in may for n in may[op]}
     assert set(stops) == {0, 1, 3}
-    assert min(*seen.values(), *stops.values()) >= 6
+    assert len(ways) == 6
+    assert min(*seen.values(), *stops.values(), *ways.values()) >= 6
 
 
-def main():
+def written():
+    """The two files: the records, and what they must give."""
     list_records.write()
     block_records.write()
     flush_records.write()
-    check(flush_records.stops_seen)
+    pair_records.write()
+    check(flush_records.stops_seen, pair_records.ways_seen)
     text = "\n".join(asked) + "\n"
     assert len(text) < MOST_BYTES
-    with open(FILES + "stdin", "w", encoding="ascii") as f:
-        f.write(text)
-    with open(FILES + "stdout", "w", encoding="ascii") as f:
-        f.write("\n".join(given) + "\n")
-    print(len(asked), "records,", len(text), "bytes")
+    return {"stdin": text, "stdout": "\n".join(given) + "\n"}
+
+
+def show():
+    print(len(asked), "records")
     for op, numbers in sorted(answers().items()):
         print("op", op, "answers", {n: seen[op, n] for n in numbers})
     print("stops", dict(sorted(flush_records.stops_seen.items())))
+    print("ways", dict(sorted(pair_records.ways_seen.items())))
+
+
+def stored(name):
+    with open(FILES + name, encoding="ascii") as f:
+        return f.read()
+
+
+def main(arguments):
+    files = written()
+    if arguments == ["--check"]:
+        differ = [name for name, text in files.items() if stored(name) != text]
+        print("crates/land_cases:", "DIFFERS in " + ", ".join(differ) if differ else "as written")
+        return 1 if differ else 0
+    for name, text in files.items():
+        with open(FILES + name, "w", encoding="ascii") as f:
+            f.write(text)
+    show()
+    return 0
 
 
 if __name__ == "__main__":
-    main()
+    sys.exit(main(sys.argv[1:]))

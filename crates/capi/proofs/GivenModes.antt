@@ -1,11 +1,13 @@
--- A mode from its number: the ways out. Assumes nothing.
+-- A mode from its number: the ways out, and those of a call that has it. Assumes nothing.
 use Prim.Native.Nat.{ℕ}
 use mathlib.Core.List.{[], _∷_}
-use mathlib.Core.Path.{_≡_}
+use mathlib.Core.Path.{_≡_, refl, sym, _∙_}
 use borrow.Author.Tests.{ne-eqb}
 use Rattle.units.specs.declared.Mode.{Mode}
 use Rattle.units.proofs.Alignments.{Missed}
-use Rattle.capi.specs.Modes.{givenMode}
+use Rattle.model.specs.Calls.{Outcome, refused}
+use Rattle.model.specs.Layouts.{Done}
+use Rattle.capi.specs.Modes.{givenMode, withMode}
 use Rattle.capi.specs.declared.modes.Given.{Given}
 
 module _ (m : ℕ) where
@@ -25,3 +27,13 @@ module _ (m : ℕ) where
   mode-other h = rw (ne-eqb m 0 (h .0 .0 .0 .1), ne-eqb m 1 (h .0 .0 .1), ne-eqb m 2 (h .0 .1), ne-eqb m 3 (h .1))
 
 pub ruleset mode-ways = (mode-none, mode-low, mode-high, mode-entire, mode-other)
+
+-- a call with its mode as a number is the call with the mode, or the refusal
+module _ {H W R : Type 0} (show : Done Outcome H W → R) (call : Mode → Done Outcome H W) (n : ℕ) (h : H) (ws : W) (m : ℕ) (v : Given) (e : v ≡ givenMode m) where
+  pub mode-known : (mode : Mode) → v ≡ Given.Mode mode → (r : R) (ws' : W) → (r ≡ show (call mode)) × (ws' ≡ call mode .words) →
+      (r ≡ show (withMode call n h ws (givenMode m))) × (ws' ≡ withMode call n h ws (givenMode m) .words)
+  mode-known mode f r ws' p = let g : givenMode m ≡ Given.Mode mode = sym e ∙ f in rw g p
+
+  pub mode-unknown : v ≡ Given.Unknown → (r : R) → r ≡ show (record { out = refused n; handle = h; words = ws }) →
+      (r ≡ show (withMode call n h ws (givenMode m))) × (ws ≡ withMode call n h ws (givenMode m) .words)
+  mode-unknown f r p = let g : givenMode m ≡ Given.Unknown = sym e ∙ f in rw g (p, refl)

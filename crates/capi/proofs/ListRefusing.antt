@@ -1,22 +1,18 @@
--- A find of the list land with its mode as a number: the ways out. Assumes nothing.
+-- A find of the list land refused for its mode. Assumes nothing.
 use Prim.Native.Nat.{ℕ}
 use mathlib.Core.List.{List}
-use mathlib.Core.Path.{_≡_, refl, sym, _∙_}
+use mathlib.Core.Path.{_≡_, _∙_}
 use Rattle.units.proofs.Tests.{by}
 use Rattle.units.specs.Words.{rangeOf}
-use Rattle.units.specs.declared.Mode.{Mode}
 use Rattle.units.specs.declared.Range.{Range}
-use Rattle.units.specs.declared.Which.{Which}
 use Rattle.units.specs.declared.aims.Aim.{Aim}
-use Rattle.list_land.specs.Calls.{found, foundOf, foundNone}
+use Rattle.list_land.specs.Calls.{foundNone}
 use Rattle.list_land.specs.Layout.{setUp, sound}
 use Rattle.list_land.specs.Parts.{lookOf}
-use Rattle.list_land.specs.declared.Found.{Found}
 use Rattle.list_land.specs.declared.ListLand.{ListLand}
 use Rattle.list_land.specs.declared.Look.{Look}
-use Rattle.capi.specs.Modes.{givenMode, unknownMode}
-use Rattle.capi.specs.ListFinds.{foundBy, modeAnswer}
-use Rattle.capi.specs.declared.modes.Given.{Given}
+use Rattle.capi.specs.Modes.{unknownMode}
+use Rattle.capi.specs.ListFinds.{modeAnswer}
 
 answer-is : (h : ListLand) (ws : List ℕ) (aim : Aim) → modeAnswer (lookOf h ws aim) ≡ unknownMode (setUp h ws) (sound h ws)
 unfolding lookOf
@@ -27,12 +23,3 @@ pub refused-mode : (h : ListLand) (ws : List ℕ) (aim : Aim) (v : Look) (n : �
 refused-mode h ws aim v n r q e f g k =
     let p : n ≡ unknownMode (setUp h ws) (sound h ws) = f ∙ rw e (answer-is h ws aim) in
     rw (p, g, k)
-
-module _ (h : ListLand) (ws : List ℕ) (w : Which) (n m : ℕ) (v : Given) (e : v ≡ givenMode m) where
-  pub found-known : (mode : Mode) → v ≡ Given.Mode mode → (f : Found) (ws' : List ℕ) → (f ≡ foundOf (found h ws w n mode)) × (ws' ≡ found h ws w n mode .words) →
-      (f ≡ foundOf (foundBy h ws w n m)) × (ws' ≡ foundBy h ws w n m .words)
-  found-known mode g f ws' p = let k : givenMode m ≡ Given.Mode mode = sym e ∙ g in rw k p
-
-  pub found-unknown : v ≡ Given.Unknown → (f : Found) → f ≡ foundNone h (unknownMode (setUp h ws) (sound h ws)) →
-      (f ≡ foundOf (foundBy h ws w n m)) × (ws ≡ foundBy h ws w n m .words)
-  found-unknown g f p = let k : givenMode m ≡ Given.Unknown = sym e ∙ g in rw k (p, refl)

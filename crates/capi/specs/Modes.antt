@@ -3,6 +3,8 @@ use Prim.Native.Nat.{ℕ}
 use mathlib.Core.Bool.{Bool, cond}
 use lib.Dec.{eqb}
 use Rattle.units.specs.declared.Mode.{Mode}
+use Rattle.model.specs.Calls.{Outcome, refused}
+use Rattle.model.specs.Layouts.{Done}
 use Rattle.capi.specs.declared.modes.Given.{Given}
 
 -- 0 none, 1 low, 2 high, 3 entire.
@@ -16,3 +18,8 @@ givenMode m =
 -- Any other number is answered 4 where the size rule is tested: after 5 and 6.
 abbrev pub unknownMode : Bool → Bool → ℕ
 unknownMode set-up sound = cond set-up (cond sound 4 6) 5
+
+-- A call with its mode; with a number that is none, a refusal that leaves the handle and the words.
+abbrev pub withMode : {H W : Type 0} → (Mode → Done Outcome H W) → ℕ → H → W → Given → Done Outcome H W
+withMode call n h ws (Given.Mode mode) = call mode
+withMode call n h ws Given.Unknown = record { out = refused n; handle = h; words = ws }

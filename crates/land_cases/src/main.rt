@@ -1,17 +1,19 @@
-// Plays records of standard input on the list land and the block land, each with its own handle and words, and prints what
-// each call returns. It assumes the contracts of libc's read and write, and nothing else.
+// Plays records of standard input on the list land, the block land and the pair, each with its own handle and words, and
+// prints what each call returns. It assumes the contracts of libc's read and write, and nothing else.
 //
 // A record is OP base limit align head ranges bytes NWORDS w0 .. A B C. OP: 0 open, 1 insert, 2 delete, 3 find first,
 // 4 find last, 5 find largest, 6 walk on a list land; 10 to 16 the same on a block land, whose head is not read, and
 // is printed as 0. A find's mode is B: 0 none, 1 low, 2 high, 3 entire.
 //
 // A flush is OP 20: 20, the list's handle, NWORDS w0 .., then 0, the block land's handle, NNODES n0 .. with both handles in
-// the form above. A number that cannot be read ends the program. It reads 262,144 bytes at most.
+// the form above. OP 31 to 35 are insert, delete and the finds on a pair: the same numbers, then A B C. A number that cannot
+// be read ends the program. It reads 262,144 bytes at most.
 use block_land::BlockLand;
 use flush::Flushed;
 use list_land::Changed;
 use list_land::Found;
 use list_land::ListLand;
+use pair::Pair;
 use units::Addr;
 use units::Align;
 use units::Mode;
@@ -243,6 +245,35 @@ fn call_block(op: u64, land: BlockLand, nodes: &mut [u64], a: u64, b: u64) -> Fo
     }
 }
 
+fn of_pair_change(c: pair::Changed) -> pair::Found {
+    let pair = c.pair;
+    let range = c.range;
+    pair::Found {
+        pair,
+        answer: c.answer,
+        range,
+        old: Range::none(),
+    }
+}
+
+// One call of the pair.
+fn call_pair(
+    op: u64,
+    pair: Pair,
+    words: &mut [u64],
+    nodes: &mut [u64],
+    a: u64,
+    b: u64,
+) -> pair::Found {
+    match op {
+        31 => of_pair_change(pair.insert(words, nodes, Range::new(Addr::new(a), Addr::new(b)))),
+        32 => of_pair_change(pair.delete(words, nodes, Range::new(Addr::new(a), Addr::new(b)))),
+        33 => pair.find_first(words, nodes, Size::new(a), mode_of(b)),
+        34 => pair.find_last(words, nodes, Size::new(a), mode_of(b)),
+        _ => pair.find_largest(words, nodes, Size::new(a), mode_of(b)),
+    }
+}
+
 // A space and a number.
 fn show(n: u64) {
     io::write_all(1, b" ");
@@ -293,6 +324,19 @@ fn show_flush(f: Flushed, words: &[u64], nodes: &[u64]) {
     io::write_all(1, b"\n");
 }
 
+// A line for a call of the pair: the answer, the two handles, the two ranges, the node words and the arena words.
+fn show_pair(found: pair::Found, words: &[u64], nodes: &[u64]) {
+    let pair = found.pair;
+    io::print_decimal(1, found.answer);
+    show_land(pair.list);
+    show_land(with_head(pair.block));
+    show_range(found.range);
+    show_range(found.old);
+    show_words(nodes);
+    show_words(words);
+    io::write_all(1, b"\n");
+}
+
 // The call of a record, and its line.
 fn play_call(front: &[u64; 8], words: &mut [u64], args: &[u64; 3]) {
     if front[0] < 10 {
@@ -304,12 +348,41 @@ fn play_call(front: &[u64; 8], words: &mut [u64], args: &[u64; 3]) {
     show_line(found, words);
 }
 
-// The rest of a flush, from its node words on.
+// The flush of a record, and its line.
+fn play_flush(front: &[u64; 8], words: &[u64], second: &[u64; 8], nodes: &mut [u64]) {
+    let f = flush::flush(handle(front), words, block_handle(second), nodes);
+    show_flush(f, words, nodes);
+}
+
+// The rest of a record of the pair, from its three last numbers on.
+fn play_pair(
+    text: &[u8],
+    from: usize,
+    front: &[u64; 8],
+    words: &mut [u64],
+    second: &[u64; 8],
+    nodes: &mut [u64],
+) -> Place {
+    let mut args = [0u64; 3];
+    let p = fill(text, from, &mut args);
+    if !p.good {
+        return p;
+    }
+    let pair = Pair {
+        list: handle(front),
+        block: block_handle(second),
+    };
+    let found = call_pair(front[0], pair, words, nodes, args[0], args[1]);
+    show_pair(found, words, nodes);
+    p
+}
+
+// The rest of a flush or of a record of the pair, from its node words on.
 fn play_nodes(
     text: &[u8],
     from: usize,
     front: &[u64; 8],
-    words: &[u64],
+    words: &mut [u64],
     second: &[u64; 8],
     nodes: &mut [u64],
 ) -> Place {
@@ -317,13 +390,15 @@ fn play_nodes(
     if !p.good {
         return p;
     }
-    let f = flush::flush(handle(front), words, block_handle(second), nodes);
-    show_flush(f, words, nodes);
+    if 20 < front[0] {
+        return play_pair(text, p.at, front, words, second, nodes);
+    }
+    play_flush(front, words, second, nodes);
     p
 }
 
-// The rest of a flush, from the block land's numbers on.
-fn play_flush(text: &[u8], from: usize, front: &[u64; 8], words: &[u64]) -> Place {
+// The rest of a flush or of a record of the pair, from the block land's numbers on.
+fn play_block(text: &[u8], from: usize, front: &[u64; 8], words: &mut [u64]) -> Place {
     let mut second = [0u64; 8];
     let mut nodes = [0u64; 64];
     let p = fill(text, from, &mut second);
@@ -347,8 +422,8 @@ fn play_words(text: &[u8], from: usize, front: &[u64; 8], words: &mut [u64]) -> 
     if !p.good {
         return p;
     }
-    if front[0] == 20 {
-        return play_flush(text, p.at, front, words);
+    if 20 <= front[0] {
+        return play_block(text, p.at, front, words);
     }
     let mut args = [0u64; 3];
     let q = fill(text, p.at, &mut args);

@@ -93,7 +93,7 @@ impl Pair {
     }
 
     // The checks of a call, in their order: the set-up, a sound list, a sound table, no byte in both.
-    fn check(self, words: &[u64], nodes: &[u64], aim: Aim) -> PairCheck
+    pub fn check(self, words: &[u64], nodes: &[u64], aim: Aim) -> PairCheck
         ensures { λ r. ⌜ r ≡ checkOf self (now (words .entry)) (now (nodes .entry)) aim ⌝ }
     {
         let SetUp::Good = self.set_up(words, nodes) else {

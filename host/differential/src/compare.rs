@@ -42,7 +42,7 @@ fn compare_words(expected: &[u64], got: &[u64]) -> Result<(), String> {
 mod tests {
     use super::compare;
     use crate::lent::Lent;
-    use limbegoru_model::{BlockHandle, Done, Flushed, ListHandle, Opened, Range};
+    use limbegoru_model::{BlockHandle, Done, Flushed, ListHandle, Opened, Pair, Range};
 
     const LIST: ListHandle = ListHandle { base: 1, limit: 2, align: 3, head: 4, ranges: 5, bytes: 6 };
     const BLOCK: BlockHandle = BlockHandle { base: 1, limit: 2, align: 3, ranges: 5, bytes: 6 };
@@ -93,6 +93,21 @@ mod tests {
         assert!(compare(&flushed, &Flushed { answer: 5, ..flushed }, &[]).is_err());
         assert!(compare(&flushed, &Flushed { moved: 1, ..flushed }, &[]).is_err());
         assert!(compare(&flushed, &Flushed { stop: 0, ..flushed }, &[]).is_err());
+    }
+
+    #[test]
+    fn every_handle_of_a_pair() {
+        let pair = Pair { list: LIST, block: BLOCK };
+        let done = Done { land: pair, answer: 7, range: Range::NOTHING, old: Range::NOTHING };
+        assert!(compare(&done, &done, &[]).is_ok());
+        for field in 0..6 {
+            let land = Pair { list: list_but(field), ..pair };
+            assert!(compare(&done, &Done { land, ..done }, &[]).is_err());
+        }
+        for field in 0..5 {
+            let land = Pair { block: block_but(field), ..pair };
+            assert!(compare(&done, &Done { land, ..done }, &[]).is_err());
+        }
     }
 
     #[test]

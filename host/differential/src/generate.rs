@@ -20,6 +20,18 @@ pub fn small_arena(random: &mut Random) -> Arena {
     let align = align(random);
     let most = (MOST_WORDS * 8 / align).max(2);
     let units = if random.once_in(4) { random.below(most.min(8) + 1) } else { random.between(most / 8, most) };
+    arena_of(random, align, units)
+}
+
+/// An arena of 0 to 60 units, so that ranges often touch and are often of the same length.
+pub fn tiny_arena(random: &mut Random) -> Arena {
+    let align = random.pick(&[8, 8, 8, 16, 16, 64]);
+    let units = if random.once_in(8) { random.below(9) } else { random.between(16, 60) };
+    arena_of(random, align, units)
+}
+
+/// An arena of so many units: low, somewhere, or ending at 2^40.
+fn arena_of(random: &mut Random, align: u64, units: u64) -> Arena {
     let highest = HIGHEST_LIMIT / align - units;
     let first = match random.below(8) {
         0 => 1,
@@ -184,6 +196,11 @@ impl Mix {
     /// Any mix.
     pub fn any(random: &mut Random) -> Mix {
         Mix { tenths_free: random.below(11), finds_in_20: random.below(6), walks_in_20: random.below(3) }
+    }
+
+    /// Any mix without walks.
+    pub fn of_a_pair(random: &mut Random) -> Mix {
+        Mix { tenths_free: random.between(6, 10), finds_in_20: random.below(9), walks_in_20: 0 }
     }
 
     /// A call of the mix on a land that has these ranges.

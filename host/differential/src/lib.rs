@@ -1,4 +1,4 @@
-//! The compiled component against the model of document 01.
+//! The compiled component against the model of document 01 and of request K4.
 //!
 //! Every call is made on both. The whole result, every word of the lent memory and the guard words around it are
 //! compared after every call. All calls follow from a seed, so a failure can be repeated; it is reported with the seed,
@@ -14,15 +14,19 @@
 //! * [`parts`]: the kinds of calls that are compared, and the order in which they are run
 //! * [`run`]: one run of calls, and the comparison
 //! * [`component`]: the ways to call the component
-//! * [`generate`], [`damage`]: arenas, sets, requests; handles and words that are not sound
+//! * [`generate`], [`damage`], [`two`]: arenas, sets, requests; handles and words that are not sound; two lands
+//! * [`given`], [`branches`]: a pair as a call was given it, and the branches of its calls, which are counted
 #![forbid(unsafe_code)]
 #![deny(missing_docs)]
 
+pub mod branches;
 pub mod compare;
 pub mod component;
 pub mod damage;
 pub mod generate;
+pub mod given;
 pub mod lent;
 pub mod parts;
 pub mod random;
 pub mod run;
+pub mod two;

@@ -1,19 +1,27 @@
 //! One run of calls: each is made on the component and on the model, and compared.
 
+use std::collections::BTreeMap;
 use std::fmt::Debug;
 
-use limbegoru_model::{block, flush, list, BlockHandle, Call, Done, Flushed, ListHandle, Opened};
+use limbegoru_model::answer::{ACCEPTED, FULL};
+use limbegoru_model::{
+    block, flush, list, pair, BlockHandle, Call, Done, Find, Flushed, ListHandle, Opened, Pair, Range,
+};
 
+use crate::branches;
 use crate::compare::{compare, Report};
 use crate::component::Component;
+use crate::given::Given;
 use crate::lent::Lent;
 use crate::random::Random;
 
-/// Calls made, by answer number.
-#[derive(Clone, Copy, Debug, Default, PartialEq, Eq)]
+/// Calls made, by answer number; those of pairs also by branch.
+#[derive(Clone, Debug, Default, PartialEq, Eq)]
 pub struct Tally {
     /// How often the answer with this number was given.
-    pub answers: [u64; 7],
+    pub answers: [u64; 8],
+    /// How often a call on a pair took the branch of this name.
+    pub branches: BTreeMap<&'static str, u64>,
 }
 
 impl Tally {
@@ -27,6 +35,29 @@ impl Tally {
         for (mine, theirs) in self.answers.iter_mut().zip(other.answers) {
             *mine += theirs;
         }
+        for (name, count) in &other.branches {
+            *self.branches.entry(name).or_default() += count;
+        }
+    }
+
+    /// How often the branch ran that was taken least often of these.
+    pub fn rarest<'n>(&self, names: &[&'n str]) -> (&'n str, u64) {
+        let counted = names.iter().map(|name| (*name, self.branches.get(name).copied().unwrap_or(0)));
+        counted.min_by_key(|(_, count)| *count).expect("there are names")
+    }
+}
+
+/// What the model does with a call on a pair, which has no walk.
+pub fn pair_call(given: Pair, words: &mut [u64], nodes: &mut [u64], call: &Call) -> Done<Pair> {
+    let changed = |pair::Changed { pair, answer, range }| Done { land: pair, answer, range, old: Range::NOTHING };
+    let found = |pair::Found { pair, answer, range, old }| Done { land: pair, answer, range, old };
+    match *call {
+        Call::Insert(range) => changed(pair::insert(given, words, nodes, range)),
+        Call::Delete(range) => changed(pair::delete(given, words, nodes, range)),
+        Call::Find(Find::First, size, mode) => found(pair::find_first(given, words, nodes, size, mode)),
+        Call::Find(Find::Last, size, mode) => found(pair::find_last(given, words, nodes, size, mode)),
+        Call::Find(Find::Largest, size, mode) => found(pair::find_largest(given, words, nodes, size, mode)),
+        Call::Walk(_) => panic!("a pair has no walk"),
     }
 }
 
@@ -125,6 +156,25 @@ impl<'c> Run<'c> {
         compare(&expected, &got, &[(&words, arena), (&nodes, space)])
             .map_err(|difference| self.report(&"flush", &[&list, &before, &block, &before_nodes], &difference))?;
         self.count(got.answer);
+        Ok(got)
+    }
+
+    /// A call on a pair, with the arena and node space.
+    pub fn pair_call(&mut self, given: Pair, memories: [&mut Lent; 2], call: &Call) -> Result<Done<Pair>, Report> {
+        let [arena, space] = memories;
+        let (before, before_nodes) = (arena.words().to_vec(), space.words().to_vec());
+        let (mut words, mut nodes) = (before.clone(), before_nodes.clone());
+        let expected = pair_call(given, &mut words, &mut nodes, call);
+        let same = expected.land == given && words == before && nodes == before_nodes;
+        assert!(expected.answer == ACCEPTED || (same && expected.answer != FULL), "{call:?} {expected:?}");
+        let got = self.component.pair_call(given, arena.words_mut(), space.words_mut(), call);
+        compare(&expected, &got, &[(&words, arena), (&nodes, space)])
+            .map_err(|difference| self.report(call, &[&given, &before, &before_nodes], &difference))?;
+        self.count(got.answer);
+        let given = Given { pair: given, words: &before, nodes: &before_nodes };
+        for name in branches::taken(&given, call, &got) {
+            *self.tally.branches.entry(name).or_default() += 1;
+        }
         Ok(got)
     }
 }

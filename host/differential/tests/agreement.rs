@@ -39,6 +39,7 @@ fn main() -> ExitCode {
             return ExitCode::FAILURE;
         }
     };
+    parts::print_branches(&tally);
     parts::print("all", &tally);
     println!("seed {seed}, {:.1} seconds", began.elapsed().as_secs_f64());
     assert!(tally.calls() >= calls.unwrap_or(LEAST), "too few calls");

@@ -13,7 +13,7 @@
 //! assert_eq!(found.answer, 4); // no mode has the number 9
 //! ```
 
-use crate::handle::{BlockHandle, ListHandle, Range};
+use crate::handle::{BlockHandle, ListHandle, PairHandle, Range};
 use crate::sys;
 
 /// Opens a list land. No word is written.
@@ -140,4 +140,60 @@ pub fn block_walk(land: BlockHandle, nodes: &[u64], from: u64) -> sys::lg_block_
 pub fn flush(list: ListHandle, words: &[u64], block: BlockHandle, nodes: &mut [u64]) -> sys::lg_flushed {
     // SAFETY: the pointers and lengths are those of slices; node space is lent mutably, so the two do not overlap.
     unsafe { sys::lg_flush(list, words.as_ptr(), words.len(), block, nodes.as_mut_ptr(), nodes.len()) }
+}
+
+/// Makes a range free that has no free byte in either land.
+#[inline]
+pub fn pair_insert(pair: PairHandle, words: &mut [u64], nodes: &mut [u64], range: Range) -> sys::lg_pair_changed {
+    // SAFETY: the pointers and lengths are those of slices lent mutably, so the two do not overlap.
+    unsafe { sys::lg_pair_insert(pair, words.as_mut_ptr(), words.len(), nodes.as_mut_ptr(), nodes.len(), range) }
+}
+
+/// Takes a range out of the land that holds all of it.
+#[inline]
+pub fn pair_delete(pair: PairHandle, words: &mut [u64], nodes: &mut [u64], range: Range) -> sys::lg_pair_changed {
+    // SAFETY: the pointers and lengths are those of slices lent mutably, so the two do not overlap.
+    unsafe { sys::lg_pair_delete(pair, words.as_mut_ptr(), words.len(), nodes.as_mut_ptr(), nodes.len(), range) }
+}
+
+/// The lower of what the two lands find first.
+#[inline]
+pub fn pair_find_first(
+    pair: PairHandle,
+    words: &mut [u64],
+    nodes: &mut [u64],
+    size: u64,
+    mode: u64,
+) -> sys::lg_pair_found {
+    let (n, m) = (words.len(), nodes.len());
+    // SAFETY: the pointers and lengths are those of slices lent mutably, so the two do not overlap.
+    unsafe { sys::lg_pair_find_first(pair, words.as_mut_ptr(), n, nodes.as_mut_ptr(), m, size, mode) }
+}
+
+/// The higher of what the two lands find last.
+#[inline]
+pub fn pair_find_last(
+    pair: PairHandle,
+    words: &mut [u64],
+    nodes: &mut [u64],
+    size: u64,
+    mode: u64,
+) -> sys::lg_pair_found {
+    let (n, m) = (words.len(), nodes.len());
+    // SAFETY: the pointers and lengths are those of slices lent mutably, so the two do not overlap.
+    unsafe { sys::lg_pair_find_last(pair, words.as_mut_ptr(), n, nodes.as_mut_ptr(), m, size, mode) }
+}
+
+/// The longer of the two lands' largest, the lower base among equals.
+#[inline]
+pub fn pair_find_largest(
+    pair: PairHandle,
+    words: &mut [u64],
+    nodes: &mut [u64],
+    size: u64,
+    mode: u64,
+) -> sys::lg_pair_found {
+    let (n, m) = (words.len(), nodes.len());
+    // SAFETY: the pointers and lengths are those of slices lent mutably, so the two do not overlap.
+    unsafe { sys::lg_pair_find_largest(pair, words.as_mut_ptr(), n, nodes.as_mut_ptr(), m, size, mode) }
 }

@@ -56,6 +56,16 @@ pub struct BlockHandle {
     pub bytes: u64,
 }
 
+/// The handle of a pair: those of its two lands.
+#[repr(C)]
+#[derive(Clone, Copy, Debug, Default, PartialEq, Eq, Hash)]
+pub struct PairHandle {
+    /// The list land's handle.
+    pub list: ListHandle,
+    /// The block land's handle.
+    pub block: BlockHandle,
+}
+
 /// What a find takes out of the range that it finds. Of the largest range, low and high take all.
 #[derive(Clone, Copy, Debug, PartialEq, Eq, Hash)]
 pub enum Mode {

@@ -2,8 +2,9 @@
 //! its archive; this crate adds the borrowing of the words and turns answer numbers into results.
 //!
 //! A land keeps the free ranges of an arena [base, limit). A [`ListLand`] records them inside the free memory, a
-//! [`BlockLand`] in separate node space, and [`flush`] moves them from the first to the second. No call has a
-//! precondition: every handle, every memory and every number is answered, and a refused call changes nothing.
+//! [`BlockLand`] in separate node space, and [`flush`] moves them from the first to the second. A [`Pair`] of both
+//! takes over in the list what has no room in node space. No call has a precondition: every handle, every memory and
+//! every number is answered, and a refused call changes nothing.
 //!
 //! A host gives out a piece of its memory and takes it back; the second release of the same piece is refused:
 //!
@@ -23,6 +24,26 @@
 //! # Ok::<(), Refusal>(())
 //! ```
 //!
+//! A pair records every release, however small its node space. What lies in both lands is not taken out by one delete:
+//!
+//! ```
+//! use limbegoru::{BlockLand, ListLand, Pair, Range, Refusal};
+//!
+//! let (mut words, mut nodes) = ([0; 8], [0; 2]); // node space for one range
+//! let list = ListLand::open(4096, 4160, 8, &mut words)?;
+//! let block = BlockLand::open(4096, 4160, 8, &mut nodes)?;
+//! let mut pair = Pair::new(list, block);
+//!
+//! pair.insert(Range::new(4096, 4112))?; // into the block land
+//! pair.insert(Range::new(4120, 4136))?; // it is full: into the list
+//! pair.insert(Range::new(4112, 4120))?; // it grows up to the list's range
+//! assert_eq!(pair.delete(Range::new(4112, 4128)), Err(Refusal::InBoth));
+//!
+//! let (list, block) = pair.into_lands();
+//! assert_eq!((list.handle().bytes, block.handle().bytes), (16, 24));
+//! # Ok::<(), Refusal>(())
+//! ```
+//!
 //! The archive `liblimbegoru.a` is made by `host/c/build`; `LIMBEGORU_ARCHIVE_DIR` names its folder if it is elsewhere.
 #![deny(missing_docs)]
 #![deny(unsafe_op_in_unsafe_fn)]
@@ -31,14 +52,16 @@ mod block;
 pub mod calls;
 mod handle;
 mod list;
+mod pair;
 mod refusal;
 pub mod sys;
 
 use std::iter::FusedIterator;
 
 pub use block::BlockLand;
-pub use handle::{BlockHandle, ListHandle, Mode, Range};
+pub use handle::{BlockHandle, ListHandle, Mode, PairHandle, Range};
 pub use list::ListLand;
+pub use pair::Pair;
 pub use refusal::Refusal;
 
 /// What a find found.

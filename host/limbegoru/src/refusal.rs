@@ -4,7 +4,7 @@ use std::error::Error;
 use std::fmt;
 
 /// Why a call was refused. Nothing has changed then. The reasons are checked in the order set-up, damaged, request,
-/// overlap or none found, full.
+/// overlap or none found, full; on a pair set-up, damaged, request, overlap or none found, in both.
 #[derive(Clone, Copy, Debug, PartialEq, Eq, Hash)]
 pub enum Refusal {
     /// Insert: some byte is already free. Delete: some byte is not free.
@@ -15,19 +15,28 @@ pub enum Refusal {
     Full = 3,
     /// The range or the size breaks the rules.
     Request = 4,
-    /// The handle's fixed fields or the lent lengths break the arena rules; in a flush, also if the two lands differ in
-    /// base, limit or alignment.
+    /// The handle's fixed fields or the lent lengths break the arena rules; in a flush and on a pair, also if the two
+    /// lands differ in base, limit or alignment.
     SetUp = 5,
-    /// The list or table is not sound.
+    /// The list or table is not sound, or the lands of a pair overlap.
     Damaged = 6,
+    /// Delete on a pair: every byte is free, but neither land holds all of them.
+    InBoth = 7,
 }
 
 impl Refusal {
     /// All refusals, in the order of their numbers.
-    pub const ALL: [Refusal; 6] =
-        [Refusal::Overlap, Refusal::NoneFound, Refusal::Full, Refusal::Request, Refusal::SetUp, Refusal::Damaged];
+    pub const ALL: [Refusal; 7] = [
+        Refusal::Overlap,
+        Refusal::NoneFound,
+        Refusal::Full,
+        Refusal::Request,
+        Refusal::SetUp,
+        Refusal::Damaged,
+        Refusal::InBoth,
+    ];
 
-    /// Its answer number, 1 to 6.
+    /// Its answer number, 1 to 7.
     pub const fn number(self) -> u64 {
         self as u64
     }
@@ -42,7 +51,7 @@ impl Refusal {
         match Refusal::from_number(answer) {
             Some(refusal) => Err(refusal),
             None => {
-                assert_eq!(answer, 0, "the component answers 0 to 6");
+                assert_eq!(answer, 0, "the component answers 0 to 7");
                 Ok(())
             }
         }
@@ -58,6 +67,7 @@ impl fmt::Display for Refusal {
             Refusal::Request => "the piece or the size asked for is not allowed in this memory",
             Refusal::SetUp => "the memory was not set up with the right limits or the right length",
             Refusal::Damaged => "the record of free memory has been overwritten",
+            Refusal::InBoth => "the memory to be taken is free but recorded in two places, and must be taken in parts",
         })
     }
 }

@@ -1,7 +1,7 @@
 //! The C interface as `include/limbegoru.h` declares it. The functions of [`crate::calls`] call it safely.
 #![allow(non_camel_case_types)]
 
-use crate::handle::{BlockHandle, ListHandle, Range};
+use crate::handle::{BlockHandle, ListHandle, PairHandle, Range};
 
 /// A range: `base`, `limit`.
 pub type lg_range = Range;
@@ -9,6 +9,8 @@ pub type lg_range = Range;
 pub type lg_list_land = ListHandle;
 /// A block handle: `base`, `limit`, `align`, `ranges`, `bytes`.
 pub type lg_block_land = BlockHandle;
+/// A pair's handle: `list`, `block`.
+pub type lg_pair = PairHandle;
 
 /// What the opening of a list land returns.
 #[repr(C)]
@@ -98,6 +100,32 @@ pub struct lg_flushed {
     pub stop: u64,
 }
 
+/// What an insert or a delete on a pair returns.
+#[repr(C)]
+#[derive(Clone, Copy, Debug, PartialEq, Eq)]
+pub struct lg_pair_changed {
+    /// The next handle.
+    pub pair: lg_pair,
+    /// The answer number.
+    pub answer: u64,
+    /// The range of the call, of the land concerned.
+    pub range: lg_range,
+}
+
+/// What a find on a pair returns.
+#[repr(C)]
+#[derive(Clone, Copy, Debug, PartialEq, Eq)]
+pub struct lg_pair_found {
+    /// The next handle.
+    pub pair: lg_pair,
+    /// The answer number.
+    pub answer: u64,
+    /// What was found.
+    pub range: lg_range,
+    /// The isolated range, of the land that has it, in which it was found.
+    pub old: lg_range,
+}
+
 #[rustfmt::skip]
 #[allow(missing_docs)]
 extern "C" {
@@ -124,4 +152,15 @@ extern "C" {
 
     pub fn lg_flush(list: lg_list_land, words: *const u64, n: usize, block: lg_block_land, nodes: *mut u64, m: usize)
         -> lg_flushed;
+
+    pub fn lg_pair_insert(pair: lg_pair, words: *mut u64, n: usize, nodes: *mut u64, m: usize, range: lg_range)
+        -> lg_pair_changed;
+    pub fn lg_pair_delete(pair: lg_pair, words: *mut u64, n: usize, nodes: *mut u64, m: usize, range: lg_range)
+        -> lg_pair_changed;
+    pub fn lg_pair_find_first(pair: lg_pair, words: *mut u64, n: usize, nodes: *mut u64, m: usize, size: u64,
+        mode: u64) -> lg_pair_found;
+    pub fn lg_pair_find_last(pair: lg_pair, words: *mut u64, n: usize, nodes: *mut u64, m: usize, size: u64,
+        mode: u64) -> lg_pair_found;
+    pub fn lg_pair_find_largest(pair: lg_pair, words: *mut u64, n: usize, nodes: *mut u64, m: usize, size: u64,
+        mode: u64) -> lg_pair_found;
 }

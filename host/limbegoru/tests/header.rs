@@ -4,7 +4,7 @@ use std::mem::{align_of, size_of};
 
 use limbegoru::sys::{
     lg_block_changed, lg_block_found, lg_block_land, lg_block_opened, lg_flushed, lg_list_changed, lg_list_found,
-    lg_list_land, lg_list_opened, lg_range,
+    lg_list_land, lg_list_opened, lg_pair, lg_pair_changed, lg_pair_found, lg_range,
 };
 use limbegoru::{Mode, Refusal};
 
@@ -59,7 +59,7 @@ fn declared_in_rust() -> Vec<String> {
 #[test]
 fn declarations() {
     let declared = declared_in_c();
-    assert!(declared.len() >= 18, "{declared:?}");
+    assert!(declared.len() >= 23, "{declared:?}");
     assert_eq!(declared_in_rust(), declared);
 }
 
@@ -77,6 +77,10 @@ fn sizes() {
     assert_eq!(words(size_of::<lg_block_found>()), 10);
     assert_eq!(words(size_of::<lg_flushed>()), 14);
     assert_eq!(align_of::<lg_flushed>(), 8);
+    assert_eq!(words(size_of::<lg_pair>()), 11);
+    assert_eq!(words(size_of::<lg_pair_changed>()), 14);
+    assert_eq!(words(size_of::<lg_pair_found>()), 16);
+    assert_eq!(align_of::<lg_pair_found>(), 8);
 }
 
 /// The number that the header gives to a name.
@@ -88,7 +92,8 @@ fn number_in_c(name: &str) -> Option<u64> {
 
 #[test]
 fn numbers() {
-    let refusals = ["LG_OVERLAP", "LG_NONE", "LG_FULL", "LG_REQUEST", "LG_SET_UP", "LG_DAMAGED"];
+    let refusals = ["LG_OVERLAP", "LG_NONE", "LG_FULL", "LG_REQUEST", "LG_SET_UP", "LG_DAMAGED", "LG_IN_BOTH"];
+    assert_eq!(refusals.len(), Refusal::ALL.len());
     for (name, refusal) in refusals.into_iter().zip(Refusal::ALL) {
         assert_eq!(number_in_c(name), Some(refusal.number()));
     }

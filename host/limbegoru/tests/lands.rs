@@ -1,6 +1,8 @@
 //! The safe interface: borrowing, parts, refusals in words, ranges by walks.
 
-use limbegoru::{flush, sys, BlockHandle, BlockLand, Found, ListHandle, ListLand, Mode, Range, Refusal};
+use limbegoru::{
+    flush, sys, BlockHandle, BlockLand, Found, ListHandle, ListLand, Mode, Pair, PairHandle, Range, Refusal,
+};
 
 /// [base, limit).
 fn range(base: u64, limit: u64) -> Range {
@@ -43,6 +45,100 @@ fn a_block_land_by_its_calls() -> Result<(), Refusal> {
     Ok(())
 }
 
+/// A pair of newly opened lands on [4096, 4160).
+fn pair<'w>(words: &'w mut [u64], nodes: &'w mut [u64]) -> Result<Pair<'w>, Refusal> {
+    let list = ListLand::open(4096, 4160, 8, words)?;
+    let block = BlockLand::open(4096, 4160, 8, nodes)?;
+    Ok(Pair::new(list, block))
+}
+
+#[test]
+fn a_pair_by_its_calls() -> Result<(), Refusal> {
+    let (mut words, mut nodes) = ([7; 8], [7; 3]);
+    let mut pair = pair(&mut words, &mut nodes)?;
+    assert_eq!(pair.insert(range(4096, 4120))?, range(4096, 4120));
+    assert_eq!(pair.insert(range(4128, 4160))?, range(4128, 4160));
+    assert_eq!((pair.handle().block.bytes, pair.handle().list.bytes), (24, 32));
+    assert_eq!(pair.delete(range(4104, 4112))?, range(4096, 4120));
+    assert_eq!(pair.find_first(16, Mode::Low)?, Found { range: range(4128, 4144), old: range(4128, 4160) });
+    assert_eq!(pair.find_last(8, Mode::High)?, Found { range: range(4152, 4160), old: range(4144, 4160) });
+    assert_eq!(pair.find_largest(0, Mode::Entire)?.range, range(4096, 4104));
+    pair.words_mut()[0] = 9;
+    let (list, block) = pair.into_lands();
+    assert_eq!(list.ranges().collect::<Result<Vec<_>, _>>()?, [range(4112, 4120), range(4144, 4152)]);
+    assert_eq!((list.words()[0], block.handle().ranges), (9, 0));
+    let mut again = Pair::new(list, block);
+    assert_eq!(again.insert(range(4120, 4128))?, range(4112, 4128));
+    assert_eq!(again.block().walk(0), Ok(range(4112, 4128)));
+    let (handle, words, nodes) = again.into_parts();
+    assert_eq!((handle.list.ranges, &*nodes), (1, [4112, 4128, 7].as_slice()));
+    assert_eq!(Pair::from_parts(handle, words, nodes).list().walk(0), Ok(range(4144, 4152)));
+    Ok(())
+}
+
+#[test]
+fn what_lies_in_both_lands() -> Result<(), Refusal> {
+    let (mut words, mut nodes) = ([0; 8], [0; 2]);
+    let mut pair = pair(&mut words, &mut nodes)?;
+    pair.insert(range(4096, 4104))?;
+    pair.insert(range(4112, 4120))?;
+    assert_eq!(pair.insert(range(4104, 4112))?, range(4096, 4112));
+    assert_eq!(pair.find_first(24, Mode::None), Err(Refusal::NoneFound));
+    assert_eq!(pair.delete(range(4104, 4120)), Err(Refusal::InBoth));
+    assert_eq!(pair.delete(range(4104, 4128)), Err(Refusal::Overlap));
+    assert_eq!(pair.delete(range(4104, 4112))?, range(4096, 4112));
+    assert_eq!(pair.delete(range(4112, 4120))?, range(4112, 4120));
+    Ok(())
+}
+
+#[test]
+fn a_pair_is_never_full() -> Result<(), Refusal> {
+    for room in 0..4 {
+        let (mut words, mut nodes) = ([0; 8], [0; 6]);
+        let mut pair = pair(&mut words, &mut nodes[..2 * room])?;
+        for base in (4096..4160).step_by(16) {
+            assert_eq!(pair.insert(range(base, base + 8)), Ok(range(base, base + 8)));
+        }
+        assert_eq!((pair.handle().block.ranges, pair.handle().list.ranges), (room as u64, 4 - room as u64));
+        assert_eq!(pair.find_last(8, Mode::Entire)?.range, range(4144, 4152));
+    }
+    let (mut words, mut nodes) = ([0; 8], [0; 2]);
+    let mut pair = pair(&mut words, &mut nodes)?;
+    pair.insert(range(4096, 4160))?;
+    for base in (4104..4152).step_by(16) {
+        assert!(pair.delete(range(base, base + 8)).is_ok());
+    }
+    assert_eq!(pair.handle().list.bytes + pair.handle().block.bytes, 40);
+    Ok(())
+}
+
+#[test]
+fn bad_pairs_are_refused() -> Result<(), Refusal> {
+    let (mut words, mut nodes, mut none) = ([0; 8], [0; 4], []);
+    let mut pair = pair(&mut words, &mut nodes)?;
+    pair.insert(range(4096, 4112))?;
+    let (sound, words, nodes) = pair.into_parts();
+    let mut refused = |handle: PairHandle, words: &mut [u64], refusal: Refusal| {
+        let before = (words.to_vec(), nodes.to_vec());
+        let mut pair = Pair::from_parts(handle, words, nodes);
+        assert_eq!(pair.delete(range(4096, 4104)), Err(refusal));
+        assert_eq!(pair.find_largest(0, Mode::Entire), Err(refusal));
+        assert_eq!(pair.handle(), handle);
+        assert_eq!((words.to_vec(), nodes.to_vec()), before);
+    };
+    refused(sound, &mut none, Refusal::SetUp);
+    let other = BlockHandle { limit: 4168, ..sound.block };
+    refused(PairHandle { block: other, ..sound }, words, Refusal::SetUp);
+    let counted = BlockHandle { ranges: 2, ..sound.block };
+    refused(PairHandle { block: counted, ..sound }, words, Refusal::Damaged);
+    let headless = ListHandle { head: 4100, ..sound.list };
+    refused(PairHandle { list: headless, ..sound }, words, Refusal::Damaged);
+    words[1] = 1;
+    let overlapping = ListHandle { head: 4104, ranges: 1, bytes: 8, ..sound.list };
+    refused(PairHandle { list: overlapping, ..sound }, words, Refusal::Damaged);
+    Ok(())
+}
+
 #[test]
 fn bad_parts_are_refused() {
     let handle = ListHandle { base: 4096, limit: 4160, align: 8, head: 4096, ranges: u64::MAX, bytes: 1 };
@@ -75,12 +171,12 @@ fn no_words() {
 
 #[test]
 fn refusals() {
-    assert_eq!(Refusal::ALL.map(Refusal::number), [1, 2, 3, 4, 5, 6]);
+    assert_eq!(Refusal::ALL.map(Refusal::number), [1, 2, 3, 4, 5, 6, 7]);
     for refusal in Refusal::ALL {
         assert_eq!(Refusal::from_number(refusal.number()), Some(refusal));
         assert!(refusal.to_string().len() > 20);
     }
     assert_eq!(Refusal::from_number(0), None);
-    assert_eq!(Refusal::from_number(7), None);
+    assert_eq!(Refusal::from_number(8), None);
     assert_eq!(Refusal::Damaged.to_string(), "the record of free memory has been overwritten");
 }

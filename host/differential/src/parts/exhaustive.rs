@@ -10,25 +10,25 @@ use crate::run::Run;
 const UNITS: u64 = 6;
 
 /// The values of the words that are no descriptor, and of the guards.
-const FILL: u64 = 0x7777_7777_7777_7777;
+pub(super) const FILL: u64 = 0x7777_7777_7777_7777;
 
-/// An arena of 6 units.
-fn arena(align: u64) -> Arena {
-    Arena::new(5 * align, (5 + UNITS) * align, align).expect("it keeps the rules")
+/// An arena of so many units.
+pub(super) fn arena(units: u64, align: u64) -> Arena {
+    Arena::new(5 * align, (5 + units) * align, align).expect("it keeps the rules")
 }
 
 /// The isolated ranges of the units whose bits are set.
-fn ranges_of(arena: &Arena, bits: u64) -> Vec<Range> {
-    let marked = (0..UNITS).filter(|unit| bits >> unit & 1 == 1);
+pub(super) fn ranges_of(arena: &Arena, bits: u64) -> Vec<Range> {
+    let marked = (0..arena.length() / arena.align()).filter(|unit| bits >> unit & 1 == 1);
     let unit_at = |unit| arena.base() + unit * arena.align();
     set::isolated(marked.map(|unit| Range::new(unit_at(unit), unit_at(unit + 1))).collect())
 }
 
 /// All inserts and deletes with ends from one unit before the arena to one unit behind it, all finds with sizes from 0
-/// to 7 units and between, all modes and one that is none, and all walks.
-fn calls(arena: &Arena) -> Vec<Call> {
-    let align = arena.align();
-    let ends: Vec<u64> = (0..UNITS + 3).map(|unit| arena.base() - align + unit * align).collect();
+/// to one unit more than the arena and between, all modes and one that is none, and all walks.
+pub(super) fn calls(arena: &Arena) -> Vec<Call> {
+    let (align, units) = (arena.align(), arena.length() / arena.align());
+    let ends: Vec<u64> = (0..units + 3).map(|unit| arena.base() - align + unit * align).collect();
     let mut calls = Vec::new();
     for base in &ends {
         for limit in &ends {
@@ -37,7 +37,7 @@ fn calls(arena: &Arena) -> Vec<Call> {
         }
         calls.extend([*base - 1, *base, *base + 1].map(Call::Walk));
     }
-    let sizes: Vec<u64> = (0..UNITS + 2).map(|unit| unit * align).chain([4, align + 4]).collect();
+    let sizes: Vec<u64> = (0..units + 2).map(|unit| unit * align).chain([4, align + 4]).collect();
     for find in [Find::First, Find::Last, Find::Largest] {
         for mode in 0..5 {
             calls.extend(sizes.iter().map(|size| Call::Find(find, *size, mode)));
@@ -49,7 +49,7 @@ fn calls(arena: &Arena) -> Vec<Call> {
 /// All sets of a list land with all calls, with grains and without.
 pub fn list_sets(run: &mut Run) -> Result<(), Report> {
     for align in [8, 16] {
-        let arena = arena(align);
+        let arena = arena(UNITS, align);
         let calls = calls(&arena);
         for bits in 0..1 << UNITS {
             let ranges = ranges_of(&arena, bits);
@@ -66,7 +66,7 @@ pub fn list_sets(run: &mut Run) -> Result<(), Report> {
 
 /// All sets of a block land with all calls and the capacities 0 to 3, with an odd last word and without.
 pub fn block_sets(run: &mut Run) -> Result<(), Report> {
-    let arena = arena(8);
+    let arena = arena(UNITS, 8);
     let calls = calls(&arena);
     for bits in 0..1 << UNITS {
         let ranges = ranges_of(&arena, bits);
@@ -128,7 +128,7 @@ pub fn block_words(run: &mut Run) -> Result<(), Report> {
 
 /// The flushes of all sets into all sets, with the capacities up to 3.
 pub fn flushes(run: &mut Run) -> Result<(), Report> {
-    let arena = arena(8);
+    let arena = arena(UNITS, 8);
     for bits in 0..1 << UNITS {
         let listed = ranges_of(&arena, bits);
         let mut words = vec![FILL; arena.words() as usize];

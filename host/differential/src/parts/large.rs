@@ -2,7 +2,7 @@
 
 use limbegoru_model::arena::HIGHEST_LIMIT;
 use limbegoru_model::block::MOST_WORDS;
-use limbegoru_model::{block, list, Arena, BlockHandle, Call, Find, ListHandle, Range};
+use limbegoru_model::{block, list, Arena, BlockHandle, Call, Find, ListHandle, Pair, Range};
 
 use crate::compare::Report;
 use crate::lent::Lent;
@@ -12,9 +12,11 @@ use crate::run::Run;
 pub fn everything(run: &mut Run) -> Result<(), Report> {
     for length in [MOST_WORDS - 1, MOST_WORDS, MOST_WORDS + 1] {
         node_space(run, length)?;
+        pair_of_node_space(run, length)?;
     }
     full_table(run)?;
-    long_list(run)
+    long_list(run)?;
+    long_pair(run)
 }
 
 /// An opening, an insert and a walk with node space of this length.
@@ -25,6 +27,15 @@ fn node_space(run: &mut Run, length: usize) -> Result<(), Report> {
     let all = Range::new(8, HIGHEST_LIMIT);
     let changed = run.block_call(land, &mut lent, &Call::Insert(all))?;
     run.block_call(changed.land, &mut lent, &Call::Walk(8)).map(|_| ())
+}
+
+/// An insert on a pair with node space of this length.
+fn pair_of_node_space(run: &mut Run, length: usize) -> Result<(), Report> {
+    let arena = Arena::new(4096, 4160, 8).expect("it keeps the rules");
+    let mut words = Lent::new(&[5; 8], &[1], &[2]);
+    let mut nodes = Lent::new(&vec![0; length], &[1], &[2]);
+    let pair = Pair { list: ListHandle::of(&arena, &[]), block: BlockHandle::of(&arena, &[]) };
+    run.pair_call(pair, [&mut words, &mut nodes], &Call::Insert(Range::new(4096, 4104))).map(|_| ())
 }
 
 /// So many ranges of 16 bytes, 32 bytes apart.
@@ -82,4 +93,32 @@ fn long_list(run: &mut Run) -> Result<(), Report> {
     let block = BlockHandle::of(&arena, &[]);
     let flushed = run.flush((land, &mut lent), (block, &mut nodes))?;
     run.list_call(flushed.list, &mut lent, &Call::Walk(0)).map(|_| ())
+}
+
+/// A pair of many ranges, every second one in the list: a flush that stops, a fragment handed over, and the finds.
+fn long_pair(run: &mut Run) -> Result<(), Report> {
+    let ranges = comb(4096, 4000);
+    let behind = 4096 + 32 * 4000;
+    let arena = Arena::new(4096, behind + 64, 8).expect("it keeps the rules");
+    let [listed, tabled] = [0, 1].map(|first| ranges.iter().skip(first).step_by(2).copied().collect::<Vec<Range>>());
+    let mut words = vec![5; arena.words() as usize];
+    list::write(&arena, &listed, &mut words);
+    let mut nodes = vec![0; 2 * tabled.len() + 601];
+    block::write(&tabled, &mut nodes);
+    let (mut words, mut nodes) = (Lent::new(&words, &[1], &[2]), Lent::new(&nodes, &[1], &[2]));
+    let mut pair = Pair { list: ListHandle::of(&arena, &listed), block: BlockHandle::of(&arena, &tabled) };
+    for call in [
+        Call::Find(Find::Largest, 0, 0),
+        Call::Insert(Range::new(behind, behind + 24)),
+        Call::Insert(Range::new(listed[1900].limit, tabled[1900].base)),
+        Call::Delete(Range::new(listed[1900].base, tabled[1900].limit)),
+        Call::Find(Find::First, 24, 1),
+        Call::Delete(Range::new(tabled[1900].base, tabled[1900].base + 8)),
+        Call::Delete(Range::new(behind + 8, behind + 16)),
+        Call::Find(Find::Last, 16, 3),
+        Call::Find(Find::Largest, 32, 2),
+    ] {
+        pair = run.pair_call(pair, [&mut words, &mut nodes], &call)?.land;
+    }
+    Ok(())
 }

@@ -4,6 +4,8 @@ pub mod exhaustive;
 pub mod flushes;
 pub mod histories;
 pub mod large;
+mod ledger;
+pub mod pairs;
 pub mod singles;
 
 use crate::compare::Report;
@@ -16,25 +18,30 @@ pub type Drawn = fn(&mut Run, u64) -> Result<(), Report>;
 /// A part whose calls are all those of a kind.
 pub type Whole = fn(&mut Run) -> Result<(), Report>;
 
-/// The parts whose calls are drawn, each with its share of the calls in hundredths.
-pub const DRAWN: [(&str, u64, Drawn); 5] = [
+/// The parts whose calls are drawn, each with its share of the calls in hundredths. The calls on pairs come on top of
+/// those on lands, which make up the hundred.
+pub const DRAWN: [(&str, u64, Drawn); 7] = [
     ("list histories", 30, histories::list),
     ("block histories", 25, histories::block),
     ("list single calls", 20, singles::list),
     ("block single calls", 15, singles::block),
     ("flushes", 10, flushes::drawn),
+    ("pair histories", 35, pairs::histories::drawn),
+    ("pair single calls", 25, pairs::singles::drawn),
 ];
 
 /// The parts whose calls are all those of a kind.
-pub const WHOLE: [(&str, Whole); 5] = [
+pub const WHOLE: [(&str, Whole); 7] = [
     ("all sets, list", exhaustive::list_sets),
     ("all sets, block", exhaustive::block_sets),
     ("all small lists of words", exhaustive::list_words),
     ("all small tables of words", exhaustive::block_words),
     ("all flushes", exhaustive::flushes),
+    ("all pairs that may overlap", pairs::exhaustive::overlapping),
+    ("all pairs apart", pairs::exhaustive::apart),
 ];
 
-/// Runs the drawn parts on a component with about so many calls, and prints what was counted.
+/// Runs the drawn parts on a component with about so many calls on lands, and prints what was counted.
 pub fn drawn(component: &dyn Component, seed: u64, calls: u64) -> Result<Tally, Report> {
     let mut sum = Tally::default();
     for (name, share, part) in DRAWN {
@@ -74,8 +81,15 @@ pub fn large(component: &dyn Component, seed: u64) -> Result<Tally, Report> {
     Ok(run.tally)
 }
 
+/// Prints how often each branch of a pair's calls was taken.
+pub fn print_branches(tally: &Tally) {
+    for (name, count) in &tally.branches {
+        println!("{name:<48} {count:>8}");
+    }
+}
+
 /// Prints a line of counts.
 pub fn print(name: &str, tally: &Tally) {
     let answers: Vec<String> = tally.answers.iter().map(|count| format!("{count:>7}")).collect();
-    println!("{name:<32} {:>8} calls, answers 0 to 6: {}", tally.calls(), answers.join(" "));
+    println!("{name:<32} {:>8} calls, answers 0 to 7: {}", tally.calls(), answers.join(" "));
 }

@@ -1,11 +1,13 @@
 //! The comparison can fail: components with a slip in them are noticed, each by a short run.
 
 mod calls;
+mod pair;
 mod rules;
 
 use differential::component::Component;
 use differential::parts;
-use limbegoru_model::{block, flush, list, BlockHandle, Call, Done, Flushed, ListHandle, Opened, Range};
+use differential::run::pair_call;
+use limbegoru_model::{block, flush, list, BlockHandle, Call, Done, Flushed, ListHandle, Opened, Pair, Range};
 
 /// A call on a list land as the model did it.
 struct ListCall<'a> {
@@ -38,6 +40,16 @@ struct FlushCall<'a> {
     flushed: &'a mut Flushed,
 }
 
+/// A call on a pair as the model did it: the pair before, and the result.
+struct PairCall<'a> {
+    pair: Pair,
+    before: [Vec<u64>; 2],
+    call: Call,
+    done: &'a mut Done<Pair>,
+    words: &'a mut [u64],
+    nodes: &'a mut [u64],
+}
+
 /// What a slip does to an opening, given the ends and the alignment, the lent length and the answer.
 type OpenSlip = Box<dyn Fn([u64; 3], usize, &mut u64)>;
 
@@ -48,6 +60,7 @@ struct Slip {
     block_open: OpenSlip,
     block: Box<dyn Fn(BlockCall)>,
     flush: Box<dyn Fn(FlushCall)>,
+    pair: Box<dyn Fn(PairCall)>,
 }
 
 /// The model itself.
@@ -58,6 +71,7 @@ fn no_slip() -> Slip {
         block_open: Box::new(|_, _, _| {}),
         block: Box::new(|_| {}),
         flush: Box::new(|_| {}),
+        pair: Box::new(|_| {}),
     }
 }
 
@@ -100,6 +114,13 @@ impl Component for Slip {
         (self.flush)(FlushCall { list, words: before, block, nodes: before_nodes, flushed: &mut flushed });
         flushed
     }
+
+    fn pair_call(&self, pair: Pair, words: &mut [u64], nodes: &mut [u64], call: &Call) -> Done<Pair> {
+        let before = [words.to_vec(), nodes.to_vec()];
+        let mut done = pair_call(pair, words, nodes, call);
+        (self.pair)(PairCall { pair, before, call: *call, done: &mut done, words, nodes });
+        done
+    }
 }
 
 /// The slip is noticed, and the report says how to repeat the call.
@@ -124,6 +145,11 @@ fn block_noticed(name: &str, block: impl Fn(BlockCall) + 'static) {
 /// A slip in the flush is noticed.
 fn flush_noticed(name: &str, flush: impl Fn(FlushCall) + 'static) {
     noticed(name, Slip { flush: Box::new(flush), ..no_slip() });
+}
+
+/// A slip on pairs is noticed.
+fn pair_noticed(name: &str, pair: impl Fn(PairCall) + 'static) {
+    noticed(name, Slip { pair: Box::new(pair), ..no_slip() });
 }
 
 #[test]

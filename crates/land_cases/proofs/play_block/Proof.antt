@@ -1,11 +1,11 @@
--- `land_cases::play_flush` is safe: the node words that it lends are at most 64.
+-- `land_cases::play_block` is safe: the node words that it lends are at most 64.
 -- Assumes nothing.
 use mathlib.Core.Path.{sym}
 use native.Mathlib.Omega.{arith}
 use lib.Seq.{length-take-le}
 use borrow.Author.Needs.{needs}
-use Rattle.land_cases.proofs.play_flush.Statement.{statement}
-use Rattle.land_cases.proofs.play_flush.Tie as tie
+use Rattle.land_cases.proofs.play_block.Statement.{statement}
+use Rattle.land_cases.proofs.play_block.Tie as tie
 
 slice-aggregate-fill : tie.Need-slice-aggregate-fill
 slice-aggregate-fill c = search needs
@@ -31,11 +31,14 @@ slice-aggregate-play-nodes c = sym (length-take-le _ _ (omega arith))
 play-nodes-requires : tie.Need-play-nodes-requires
 play-nodes-requires c κs = search needs
 
+same-length : tie.Need-same-length
+same-length c = search needs
+
 returns-3 : tie.Need-returns-3
 returns-3 c = search needs
 
-pub play-flush-spec : {M : Type 1} → statement M
-play-flush-spec =
+pub play-block-spec : {M : Type 1} → statement M
+play-block-spec =
     tie.close
     (tie.spec
     slice-aggregate-fill
@@ -46,4 +49,5 @@ play-flush-spec =
     array-borrow-prefix-nodes
     slice-aggregate-play-nodes
     play-nodes-requires
+    same-length
     returns-3)
