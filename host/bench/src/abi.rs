@@ -1,18 +1,10 @@
 //! The results of include/limbegoru.h over a land or a pair, and the calls of the three implementations in one trait.
 
-pub use limbegoru::{BlockHandle as BlockLand, ListHandle as ListLand, Range};
+pub use limbegoru::{BlockHandle as BlockLand, ListHandle as ListLand, PairHandle as Pair, Range};
 
 use std::fmt::Debug;
 
 use crate::baseline;
-
-/// The handles of a pair.
-#[repr(C)]
-#[derive(Clone, Copy, Debug, PartialEq, Eq)]
-pub struct Pair {
-    pub list: ListLand,
-    pub block: BlockLand,
-}
 
 #[repr(C)]
 #[derive(Clone, Copy, Debug, PartialEq, Eq)]

@@ -136,7 +136,7 @@ fn word_at(base: u64) -> usize {
 /// A pair with room in its table, the lands by turns.
 fn chequered_pair(chequer: &Chequer) -> (Pair, [Vec<u64>; 2]) {
     let tabled: Vec<bool> = (0..chequer.ranges.len()).map(|i| i % 2 == 1).collect();
-    Pair::divided(chequer, &tabled)
+    divided(chequer, &tabled)
 }
 
 /// Damaged lands of both kinds answer 6, alone and in a pair.

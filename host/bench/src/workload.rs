@@ -153,17 +153,15 @@ impl Land for BlockLand {
     }
 }
 
-impl Pair {
-    /// The ranges that are marked in the block land, the others in the list.
-    pub fn divided(chequer: &Chequer, tabled: &[bool]) -> (Self, [Vec<u64>; 2]) {
-        let those = |mark| {
-            let marked = chequer.ranges.iter().zip(tabled).filter(|(_, tabled)| **tabled == mark);
-            chequer.with(marked.map(|(range, _)| *range).collect())
-        };
-        let (list, [words]) = ListLand::holding(&those(false));
-        let (block, [nodes]) = BlockLand::holding(&those(true));
-        (Self { list, block }, [words, nodes])
-    }
+/// A pair with the ranges that are marked in the block land, and the others in the list.
+pub fn divided(chequer: &Chequer, tabled: &[bool]) -> (Pair, [Vec<u64>; 2]) {
+    let those = |mark| {
+        let marked = chequer.ranges.iter().zip(tabled).filter(|(_, tabled)| **tabled == mark);
+        chequer.with(marked.map(|(range, _)| *range).collect())
+    };
+    let (list, [words]) = ListLand::holding(&those(false));
+    let (block, [nodes]) = BlockLand::holding(&those(true));
+    (Pair { list, block }, [words, nodes])
 }
 
 impl Land for Pair {
@@ -175,7 +173,7 @@ impl Land for Pair {
         for i in 1..count {
             tabled.swap(i, random.below(i as u64 + 1) as usize);
         }
-        Self::divided(chequer, &tabled)
+        divided(chequer, &tabled)
     }
 
     fn recount(&mut self, [words, nodes]: &Self::Memory) {
