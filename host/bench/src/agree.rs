@@ -4,10 +4,9 @@ use crate::abi::*;
 use crate::workload::*;
 
 /// A land three times over, once for each implementation.
-#[derive(Clone)]
-struct Three<L> {
+struct Three<L: Land> {
     land: L,
-    words: [Vec<u64>; 3],
+    memory: [L::Memory; 3],
 }
 
 fn same<T: PartialEq + std::fmt::Debug>(what: &str, [proved, c, rust]: [T; 3]) -> T {
@@ -16,35 +15,25 @@ fn same<T: PartialEq + std::fmt::Debug>(what: &str, [proved, c, rust]: [T; 3]) -
 }
 
 impl<L: Land> Three<L> {
-    fn new(land: L, words: Vec<u64>) -> Self {
-        let words = [words.clone(), words.clone(), words];
-        Self { land, words }
+    fn new(land: L, memory: L::Memory) -> Self {
+        let memory = [memory.clone(), memory.clone(), memory];
+        Self { land, memory }
     }
 
     fn words_agree(&self, what: &str) {
-        let [proved, c, rust] = &self.words;
+        let [proved, c, rust] = &self.memory;
         assert!(proved == c && proved == rust, "words after {what} differ");
     }
 
     fn change(&mut self, change: Change) -> Changed<L> {
-        let Change { insert, range } = change;
+        let what = if change.insert { "insert" } else { "delete" };
         let land = self.land;
-        let [proved, c, rust] = &mut self.words;
-        let (what, results) = if insert {
-            let results = [
-                Calls::<Proved>::insert(land, proved, range),
-                Calls::<HandC>::insert(land, c, range),
-                Calls::<HandRust>::insert(land, rust, range),
-            ];
-            ("insert", results)
-        } else {
-            let results = [
-                Calls::<Proved>::delete(land, proved, range),
-                Calls::<HandC>::delete(land, c, range),
-                Calls::<HandRust>::delete(land, rust, range),
-            ];
-            ("delete", results)
-        };
+        let [proved, c, rust] = &mut self.memory;
+        let results = [
+            change_by::<Proved, L>(land, proved, change),
+            change_by::<HandC, L>(land, c, change),
+            change_by::<HandRust, L>(land, rust, change),
+        ];
         self.words_agree(what);
         let changed = same(what, results);
         self.land = changed.land;
@@ -53,7 +42,7 @@ impl<L: Land> Three<L> {
 
     fn find_first(&mut self, size: u64, mode: u64) -> Found<L> {
         let land = self.land;
-        let [proved, c, rust] = &mut self.words;
+        let [proved, c, rust] = &mut self.memory;
         let results = [
             Calls::<Proved>::find_first(land, proved, size, mode),
             Calls::<HandC>::find_first(land, c, size, mode),
@@ -67,7 +56,7 @@ impl<L: Land> Three<L> {
 
     /// One call of each sort must give this answer and change nothing.
     fn must_be_refused(mut self, what: &str, answer: u64) {
-        let (land, words) = (self.land, self.words[0].clone());
+        let (land, memory) = (self.land, self.memory[0].clone());
         let range = Range { base: BASE, limit: BASE + ALIGN };
         let answers = [
             self.change(Change { insert: true, range }).answer,
@@ -75,14 +64,14 @@ impl<L: Land> Three<L> {
             self.find_first(ALIGN + 1, MODE_LOW).answer,
         ];
         assert_eq!(answers, [answer; 3], "answers to {what}");
-        assert!(self.land == land && self.words[0] == words, "{what}: changed");
+        assert!(self.land == land && self.memory[0] == memory, "{what}: changed");
     }
 }
 
 /// Plays the requests on all three and compares after every call.
 pub fn over_requests<L: Land>(chequer: &Chequer, requests: &Requests) {
-    let (land, words) = L::holding(chequer);
-    let mut three = Three::new(land, words);
+    let (land, memory) = L::holding(chequer);
+    let mut three = Three::new(land, memory);
     match requests {
         Requests::Changes(changes) => {
             for &change in changes {
@@ -103,64 +92,119 @@ pub fn over_requests<L: Land>(chequer: &Chequer, requests: &Requests) {
 /// A name, and what is done to a sound land.
 type Damage<L> = (&'static str, fn(&mut L, &mut Vec<u64>));
 
-fn refused_when_damaged<L: Land>(damages: &[Damage<L>]) {
-    let chequer = Chequer::new(16, &mut Random::new(1));
-    for (what, damage) in damages {
-        let (mut land, mut words) = L::holding(&chequer);
-        damage(&mut land, &mut words);
-        Three::new(land, words).must_be_refused(what, DAMAGED);
-    }
-}
+const LIST_DAMAGES: [Damage<ListLand>; 11] = [
+    ("a range counted too many", |land, _| land.ranges += 1),
+    ("a range counted too few", |land, _| land.ranges -= 1),
+    ("eight bytes too many", |land, _| land.bytes += 8),
+    ("eight bytes too few", |land, _| land.bytes -= 8),
+    ("a head outside the arena", |land, _| land.head = land.limit),
+    ("a ragged head", |land, _| land.head += 4),
+    ("a flipped tag", |land, words| words[word_at(land.head)] ^= 1),
+    ("a link to itself", |land, words| words[word_at(land.head)] = land.head),
+    ("a link cut", |land, words| words[word_at(land.head)] = 0),
+    ("a block of eight bytes", |land, words| words[word_at(land.head) + 1] = land.head + 8),
+    ("a ragged limit", |land, words| words[word_at(land.head) + 1] -= 4),
+];
+
+const BLOCK_DAMAGES: [Damage<BlockLand>; 11] = [
+    ("a range counted too many", |land, _| land.ranges += 1),
+    ("a range counted too few", |land, _| land.ranges -= 1),
+    ("more ranges than the capacity", |land, words| land.ranges = words.len() as u64 / 2 + 1),
+    ("eight bytes too many", |land, _| land.bytes += 8),
+    ("eight bytes too few", |land, _| land.bytes -= 8),
+    ("a word behind the ranges", |land, words| words[2 * land.ranges as usize] = 1),
+    ("the last word", |_, words| *words.last_mut().expect("not empty") = 1),
+    ("an empty pair", |_, words| words[5] = words[4]),
+    ("two pairs that touch", |land, words| {
+        land.bytes += words[4] - words[3];
+        words[3] = words[4];
+    }),
+    ("a ragged pair", |_, words| {
+        words[4] += 4;
+        words[5] += 4;
+    }),
+    ("a base below the arena", |land, words| {
+        land.bytes += words[0];
+        words[0] = 0;
+    }),
+];
 
 fn word_at(base: u64) -> usize {
     ((base - BASE) / 8) as usize
 }
 
-/// Damaged lands of both kinds answer 6.
-pub fn on_damage() {
-    refused_when_damaged::<ListLand>(&[
-        ("a range counted too many", |land, _| land.ranges += 1),
-        ("a range counted too few", |land, _| land.ranges -= 1),
-        ("eight bytes too many", |land, _| land.bytes += 8),
-        ("eight bytes too few", |land, _| land.bytes -= 8),
-        ("a head outside the arena", |land, _| land.head = land.limit),
-        ("a ragged head", |land, _| land.head += 4),
-        ("a flipped tag", |land, words| words[word_at(land.head)] ^= 1),
-        ("a link to itself", |land, words| words[word_at(land.head)] = land.head),
-        ("a link cut", |land, words| words[word_at(land.head)] = 0),
-        ("a block of eight bytes", |land, words| words[word_at(land.head) + 1] = land.head + 8),
-        ("a ragged limit", |land, words| words[word_at(land.head) + 1] -= 4),
-    ]);
-    refused_when_damaged::<BlockLand>(&[
-        ("a range counted too many", |land, _| land.ranges += 1),
-        ("a range counted too few", |land, _| land.ranges -= 1),
-        ("more ranges than the capacity", |land, words| land.ranges = words.len() as u64 / 2 + 1),
-        ("eight bytes too many", |land, _| land.bytes += 8),
-        ("eight bytes too few", |land, _| land.bytes -= 8),
-        ("a word behind the ranges", |land, words| words[2 * land.ranges as usize] = 1),
-        ("the last word", |_, words| *words.last_mut().expect("not empty") = 1),
-        ("an empty pair", |_, words| words[5] = words[4]),
-        ("two pairs that touch", |land, words| {
-            land.bytes += words[4] - words[3];
-            words[3] = words[4];
-        }),
-        ("a ragged pair", |_, words| {
-            words[4] += 4;
-            words[5] += 4;
-        }),
-        ("a base below the arena", |land, words| {
-            land.bytes += words[0];
-            words[0] = 0;
-        }),
-    ]);
+/// A pair with room in its table, the lands by turns.
+fn chequered_pair(chequer: &Chequer) -> (Pair, [Vec<u64>; 2]) {
+    let tabled: Vec<bool> = (0..chequer.ranges.len()).map(|i| i % 2 == 1).collect();
+    divided(chequer, &tabled)
 }
 
-/// Arenas of length 0 in both lands. No request fits one, so that 4 is as far as a good set-up comes.
+/// Damaged lands of both kinds answer 6, alone and in a pair.
+pub fn on_damage() {
+    let chequer = &Chequer::new(16, Filling::Roomy, &mut Random::new(1));
+    for (what, damage) in LIST_DAMAGES {
+        let (mut land, [mut words]) = ListLand::holding(chequer);
+        damage(&mut land, &mut words);
+        Three::new(land, [words]).must_be_refused(what, DAMAGED);
+        let (mut pair, [mut words, nodes]) = chequered_pair(chequer);
+        damage(&mut pair.list, &mut words);
+        Three::new(pair, [words, nodes]).must_be_refused(what, DAMAGED);
+    }
+    for (what, damage) in BLOCK_DAMAGES {
+        let (mut land, [mut nodes]) = BlockLand::holding(chequer);
+        damage(&mut land, &mut nodes);
+        Three::new(land, [nodes]).must_be_refused(what, DAMAGED);
+        let (mut pair, [words, mut nodes]) = chequered_pair(chequer);
+        damage(&mut pair.block, &mut nodes);
+        Three::new(pair, [words, nodes]).must_be_refused(what, DAMAGED);
+    }
+}
+
+/// Sound lands of which each range of the one in turn has a byte in the other: 6. Lands that touch do not overlap.
+pub fn on_overlaps() {
+    let chequer = &Chequer::new(16, Filling::Roomy, &mut Random::new(1));
+    let (pair, memory) = chequered_pair(chequer);
+    for range in &chequer.ranges {
+        let (base, limit) = (range.base, range.limit);
+        for (base, limit) in [(base, limit), (base - 8, base + 8), (limit - 8, limit + 8), (base - 8, limit + 8)] {
+            let overlap = Change { insert: true, range: Range { base, limit } };
+            let (pair, memory) = in_one_land(pair, memory.clone(), overlap);
+            Three::new(pair, memory).must_be_refused("overlapping lands", DAMAGED);
+        }
+        for (base, limit) in [(base - 8, base), (limit, limit + 8)] {
+            let touch = Change { insert: true, range: Range { base, limit } };
+            let (pair, memory) = in_one_land(pair, memory.clone(), touch);
+            let found = Three::new(pair, memory).find_first(8, MODE_NONE);
+            assert_eq!(found.answer, OK, "answer to lands that touch");
+        }
+    }
+}
+
+/// A change of the one land alone that accepts it, by no call of the pair.
+fn in_one_land(mut pair: Pair, memory: [Vec<u64>; 2], change: Change) -> (Pair, [Vec<u64>; 2]) {
+    let [words, nodes] = memory;
+    let (mut words, mut nodes) = ([words], [nodes]);
+    let listed = change_by::<HandRust, _>(pair.list, &mut words, change);
+    pair.list = listed.land;
+    if listed.answer != OK {
+        pair.block = change_by::<HandRust, _>(pair.block, &mut nodes, change).land;
+    }
+    let ([words], [nodes]) = (words, nodes);
+    (pair, [words, nodes])
+}
+
+/// Arenas of length 0 in both lands and in a pair. No request fits one, so that 4 is as far as a good set-up comes.
 fn empty_answers(base: u64, limit: u64, align: u64, answer: u64) {
+    let (list, block) = empty_lands(base, limit, align);
+    Three::new(list, [vec![]]).must_be_refused("an arena", answer);
+    Three::new(block, [vec![]]).must_be_refused("an arena", answer);
+    Three::new(Pair { list, block }, [vec![], vec![]]).must_be_refused("an arena", answer);
+}
+
+fn empty_lands(base: u64, limit: u64, align: u64) -> (ListLand, BlockLand) {
     let list = ListLand { base, limit, align, head: 0, ranges: 0, bytes: 0 };
     let block = BlockLand { base, limit, align, ranges: 0, bytes: 0 };
-    Three::new(list, vec![]).must_be_refused("an arena", answer);
-    Three::new(block, vec![]).must_be_refused("an arena", answer);
+    (list, block)
 }
 
 /// Each arena rule and each lent length that a set-up can break: 5.
@@ -175,41 +219,91 @@ pub fn on_set_ups() {
     for (base, limit) in [(0, 0), (AT, AT - 8), (AT + 4, AT + 4), (END + 8, END + 8)] {
         empty_answers(base, limit, 8, SET_UP);
     }
-    let list = ListLand { base: AT, limit: AT + 64, align: 8, head: 0, ranges: 0, bytes: 0 };
+    let (list, block) = empty_lands(AT, AT + 64, 8);
     for n in [0, 7, 9] {
-        Three::new(list, vec![0; n]).must_be_refused("a lent length", SET_UP);
+        Three::new(list, [vec![0; n]]).must_be_refused("a lent length", SET_UP);
+        Three::new(Pair { list, block }, [vec![0; n], vec![0; 4]]).must_be_refused("a lent length", SET_UP);
     }
-    let block = BlockLand { base: AT, limit: AT, align: 8, ranges: 0, bytes: 0 };
-    Three::new(block, vec![0; 2_097_152]).must_be_refused("the longest node space", REQUEST);
-    Three::new(block, vec![0; 2_097_153]).must_be_refused("node space too long", SET_UP);
+    for (base, limit, align) in [(AT + 8, AT + 64, 8), (AT, AT + 72, 8), (AT, AT + 64, 16)] {
+        let (other_list, other_block) = empty_lands(base, limit, align);
+        let [words, other_words] = [64, limit - base].map(|length| vec![0; length as usize / 8]);
+        let nodes = vec![0; 4];
+        let pair = Pair { list, block: other_block };
+        Three::new(pair, [words, nodes.clone()]).must_be_refused("two arenas", SET_UP);
+        let pair = Pair { list: other_list, block };
+        Three::new(pair, [other_words, nodes]).must_be_refused("two arenas", SET_UP);
+    }
+    let (list, block) = empty_lands(AT, AT, 8);
+    for (m, answer) in [(2_097_152, REQUEST), (2_097_153, SET_UP)] {
+        Three::new(block, [vec![0; m]]).must_be_refused("long node space", answer);
+        Three::new(Pair { list, block }, [vec![], vec![0; m]]).must_be_refused("long node space", answer);
+    }
 }
 
 /// Random requests, good and bad, on small arenas; beside each a call on a land of which a word or a field is damaged.
 pub fn on_random(calls: usize) {
     let random = &mut Random::new(7);
-    let chequer = Chequer::new(8, random);
-    let (land, words) = ListLand::holding(&chequer);
-    let seen = random_on(land, words, chequer.arena, calls, |land, random| match random.below(6) {
+    let mut chequer = Chequer::new(8, Filling::Roomy, random);
+    let (land, memory) = ListLand::holding(&chequer);
+    let seen = random_on(land, memory, chequer.arena, calls, |land, _, random| list_field(land, random));
+    assert_eq!(seen, [true, true, true, false, true, true, true, false], "answers seen from a list land");
+
+    // Room for one range more, and an odd word.
+    chequer.capacity = chequer.ranges.len() + 1;
+    let (land, [mut nodes]) = BlockLand::holding(&chequer);
+    nodes.push(0);
+    let seen = random_on(land, [nodes], chequer.arena, calls, |land, _, random| block_field(land, random));
+    assert_eq!(seen, [true, true, true, true, true, true, true, false], "answers seen from a block land");
+
+    assert_eq!(random_pairs(calls), [true, true, true, false, true, true, true, true], "answers seen from a pair");
+}
+
+/// Which answers were seen from pairs on an arena so small that ranges of the two lands often touch; an odd word.
+fn random_pairs(calls: usize) -> [bool; 8] {
+    const CAPACITIES: usize = 6;
+    let arena = Range { base: BASE, limit: BASE + 8 * 24 };
+    let mut seen = [false; 8];
+    for capacity in 0..CAPACITIES {
+        let (pair, [words, mut nodes]) = Pair::holding(&Chequer { arena, ranges: vec![], capacity });
+        nodes.push(0);
+        let now = random_on(pair, [words, nodes], arena, calls / CAPACITIES, spoil_pair);
+        (0..8).for_each(|answer| seen[answer] |= now[answer]);
+    }
+    seen
+}
+
+fn list_field(land: &mut ListLand, random: &mut Random) {
+    match random.below(6) {
         0 => land.base = land.base.wrapping_add(any_step(random)),
         1 => land.limit = land.limit.wrapping_add(any_step(random)),
         2 => land.align = any_align(random),
         3 => land.head = land.head.wrapping_add(any_step(random)),
         4 => land.ranges = land.ranges.wrapping_add(any_step(random)),
         _ => land.bytes = land.bytes.wrapping_add(any_step(random)),
-    });
-    assert_eq!(seen, [true, true, true, false, true, true, true], "answers seen from a list land");
+    }
+}
 
-    // Room for one range more, and an odd word.
-    let (land, mut nodes) = BlockLand::holding(&chequer);
-    nodes.truncate(2 * (chequer.ranges.len() + 1) + 1);
-    let seen = random_on(land, nodes, chequer.arena, calls, |land, random| match random.below(5) {
+fn block_field(land: &mut BlockLand, random: &mut Random) {
+    match random.below(5) {
         0 => land.base = land.base.wrapping_add(any_step(random)),
         1 => land.limit = land.limit.wrapping_add(any_step(random)),
         2 => land.align = any_align(random),
         3 => land.ranges = land.ranges.wrapping_add(any_step(random)),
         _ => land.bytes = land.bytes.wrapping_add(any_step(random)),
-    });
-    assert_eq!(seen, [true; 7], "answers seen from a block land");
+    }
+}
+
+/// Damages a field of either land, or changes one land alone, so that the lands may overlap or touch.
+fn spoil_pair(pair: &mut Pair, memory: &mut [Vec<u64>; 2], random: &mut Random) {
+    match random.below(4) {
+        0 => list_field(&mut pair.list, random),
+        1 => block_field(&mut pair.block, random),
+        _ => {
+            let arena = Range { base: pair.list.base, limit: pair.list.limit };
+            let change = Change { insert: random.below(2) == 1, range: any_range(arena, random) };
+            (*pair, *memory) = in_one_land(*pair, memory.clone(), change);
+        }
+    }
 }
 
 fn any_step(random: &mut Random) -> u64 {
@@ -237,36 +331,34 @@ fn random_call<L: Land>(three: &mut Three<L>, arena: Range, random: &mut Random)
     three.change(Change { insert, range }).answer
 }
 
-/// Adds to a random word, or damages a field of the handle; then the counts may be made to fit.
-fn damaged<L: Land>(three: &Three<L>, random: &mut Random, field: fn(&mut L, &mut Random)) -> Three<L> {
-    let mut damaged = three.clone();
+/// Damages a land, or its memory, in a way of its own.
+type Spoil<L> = fn(&mut L, &mut <L as Handle>::Memory, &mut Random);
+
+/// Adds to a random word, or spoils the land; then the counts may be made to fit.
+fn damaged<L: Land>(three: &Three<L>, random: &mut Random, spoil: Spoil<L>) -> Three<L> {
+    let (mut land, mut memory) = (three.land, three.memory[0].clone());
     if random.below(4) == 0 {
-        field(&mut damaged.land, random);
+        spoil(&mut land, &mut memory, random);
     } else {
-        let at = random.below(three.words[0].len() as u64) as usize;
-        let word = three.words[0][at].wrapping_add(any_step(random));
-        damaged.words.iter_mut().for_each(|words| words[at] = word);
+        let lent = memory.as_mut();
+        let words = &mut lent[random.below(lent.len() as u64) as usize];
+        let at = random.below(words.len() as u64) as usize;
+        words[at] = words[at].wrapping_add(any_step(random));
     }
     if random.below(2) == 0 {
-        damaged.land.recount(&damaged.words[0]);
+        land.recount(&memory);
     }
-    damaged
+    Three::new(land, memory)
 }
 
 /// Which answers were seen.
-fn random_on<L: Land>(
-    land: L,
-    words: Vec<u64>,
-    arena: Range,
-    calls: usize,
-    field: fn(&mut L, &mut Random),
-) -> [bool; 7] {
+fn random_on<L: Land>(land: L, memory: L::Memory, arena: Range, calls: usize, spoil: Spoil<L>) -> [bool; 8] {
     let random = &mut Random::new(11);
-    let mut seen = [false; 7];
-    let mut three = Three::new(land, words);
+    let mut seen = [false; 8];
+    let mut three = Three::new(land, memory);
     for _ in 0..calls / 2 {
         seen[random_call(&mut three, arena, random) as usize] = true;
-        let mut damaged = damaged(&three, random, field);
+        let mut damaged = damaged(&three, random, spoil);
         seen[random_call(&mut damaged, arena, random) as usize] = true;
     }
     seen

@@ -2,6 +2,10 @@
 
 #![forbid(unsafe_code)]
 
+mod pair;
+
+pub use pair::{pair_delete, pair_find_first, pair_insert};
+
 use crate::abi::*;
 
 const ADDRESS_MAX: u64 = 1 << 40;
@@ -189,15 +193,21 @@ pub fn list_insert(mut land: ListLand, words: &mut [u64], r: Range) -> Changed<L
     if !range_ok(land.base, land.limit, land.align, r) {
         return no_change(land, REQUEST);
     }
-    if below.limit > r.base || (above.base != 0 && above.base < r.limit) {
+    if list_overlaps(below, above, r) {
         return no_change(land, OVERLAP);
     }
-    let all = join(&mut land, words, below, above, r);
+    let all = list_put(&mut land, words, below, above, r);
     changed(land, OK, all)
 }
 
+/// Does `r` overlap one of its two neighbours in the list?
+fn list_overlaps(below: Node, above: Node, r: Range) -> bool {
+    below.limit > r.base || (above.base != 0 && above.base < r.limit)
+}
+
 /// Puts `r` between two neighbours and joins it with those that it touches.
-fn join(land: &mut ListLand, words: &mut [u64], below: Node, above: Node, r: Range) -> Range {
+#[inline(always)]
+fn list_put(land: &mut ListLand, words: &mut [u64], below: Node, above: Node, r: Range) -> Range {
     let mut next = above.base;
     let mut all = r;
     land.ranges += 1;
@@ -306,6 +316,7 @@ impl TableScan {
     }
 
     /// Scans pairs as long as they are `wanted`: the number of pairs scanned, or none if one is not sound.
+    #[inline(always)]
     fn pairs_while(&mut self, pairs: &[u64], wanted: impl Fn(u64, u64) -> bool) -> Option<usize> {
         for (i, pair) in pairs.chunks_exact(2).enumerate() {
             if !wanted(pair[0], pair[1]) {
@@ -376,6 +387,36 @@ fn block_take(land: &mut BlockLand, nodes: &mut [u64], i: usize, old: Range, r: 
     }
 }
 
+/// Does `r`, whose place is i, overlap the pair below or above?
+fn table_overlaps(land: &BlockLand, nodes: &[u64], i: usize, r: Range) -> bool {
+    (i > 0 && nodes[2 * i - 1] > r.base) || ((i as u64) < land.ranges && nodes[2 * i] < r.limit)
+}
+
+/// Puts `r` at its place i and joins it with the pairs that it touches; none if there is no room.
+#[inline(always)]
+fn block_put(land: &mut BlockLand, nodes: &mut [u64], i: usize, r: Range) -> Option<Range> {
+    let joins_below = i > 0 && nodes[2 * i - 1] == r.base;
+    let joins_above = (i as u64) < land.ranges && nodes[2 * i] == r.limit;
+    if !joins_below && !joins_above && land.ranges as usize == nodes.len() / 2 {
+        return None;
+    }
+    let mut all = r;
+    if joins_below {
+        all.base = nodes[2 * i - 2];
+    }
+    if joins_above {
+        all.limit = nodes[2 * i + 1];
+    }
+    land.bytes += r.limit - r.base;
+    match (joins_below, joins_above) {
+        (true, true) => close_pair(land, nodes, i),
+        (false, false) => open_pair(land, nodes, i),
+        _ => {}
+    }
+    set_pair(nodes, i - usize::from(joins_below), all.base, all.limit);
+    Some(all)
+}
+
 #[inline(never)]
 pub fn block_insert(mut land: BlockLand, nodes: &mut [u64], r: Range) -> Changed<BlockLand> {
     if !block_set_up_ok(&land, nodes.len()) {
@@ -387,30 +428,13 @@ pub fn block_insert(mut land: BlockLand, nodes: &mut [u64], r: Range) -> Changed
     if !range_ok(land.base, land.limit, land.align, r) {
         return no_change(land, REQUEST);
     }
-    let has_above = (i as u64) < land.ranges;
-    if (i > 0 && nodes[2 * i - 1] > r.base) || (has_above && nodes[2 * i] < r.limit) {
+    if table_overlaps(&land, nodes, i, r) {
         return no_change(land, OVERLAP);
     }
-    let joins_below = i > 0 && nodes[2 * i - 1] == r.base;
-    let joins_above = has_above && nodes[2 * i] == r.limit;
-    if !joins_below && !joins_above && land.ranges as usize == nodes.len() / 2 {
-        return no_change(land, FULL);
+    match block_put(&mut land, nodes, i, r) {
+        Some(all) => changed(land, OK, all),
+        None => no_change(land, FULL),
     }
-    let mut all = r;
-    if joins_below {
-        all.base = nodes[2 * i - 2];
-    }
-    if joins_above {
-        all.limit = nodes[2 * i + 1];
-    }
-    land.bytes += r.limit - r.base;
-    match (joins_below, joins_above) {
-        (true, true) => close_pair(&mut land, nodes, i),
-        (false, false) => open_pair(&mut land, nodes, i),
-        _ => {}
-    }
-    set_pair(nodes, i - usize::from(joins_below), all.base, all.limit);
-    changed(land, OK, all)
 }
 
 #[inline(never)]

@@ -3,10 +3,13 @@
 use std::env::Args;
 use std::process::exit;
 
+use crate::workload::Filling;
+
 #[derive(Default)]
 pub struct Options {
     pub quick: bool,
     only: Option<String>,
+    filling: Option<Filling>,
     workload: Option<u32>,
     pub ranges: Option<usize>,
     pub calls: Option<usize>,
@@ -14,7 +17,10 @@ pub struct Options {
 }
 
 fn usage() -> ! {
-    eprintln!("bench [--quick] [--only list|block] [--workload 1|2] [--ranges N] [--calls N] [--impl proved|c|rust]");
+    eprintln!(
+        "bench [--quick] [--only list|block|pair] [--filling roomy|short] [--workload 1|2] [--ranges N] [--calls N]"
+    );
+    eprintln!("      [--impl proved|c|rust]");
     exit(2)
 }
 
@@ -40,8 +46,11 @@ impl Options {
             match name.as_str() {
                 "--quick" => options.quick = true,
                 "--only" => {
-                    let lands = ["list", "block"];
+                    let lands = ["list", "block", "pair"];
                     options.only = Some(lands[one_of(arguments, &lands)].to_string());
+                }
+                "--filling" => {
+                    options.filling = Some([Filling::Roomy, Filling::Short][one_of(arguments, &["roomy", "short"])]);
                 }
                 "--workload" => options.workload = Some(1 + one_of(arguments, &["1", "2"]) as u32),
                 "--ranges" => options.ranges = Some(number(arguments, 2)),
@@ -53,7 +62,9 @@ impl Options {
         options
     }
 
-    pub fn wants(&self, land: &str, workload: u32) -> bool {
-        self.only.as_ref().is_none_or(|only| only == land) && self.workload.is_none_or(|only| only == workload)
+    pub fn wants(&self, land: &str, filling: Filling, workload: u32) -> bool {
+        self.only.as_ref().is_none_or(|only| only == land)
+            && self.filling.is_none_or(|only| only == filling)
+            && self.workload.is_none_or(|only| only == workload)
     }
 }

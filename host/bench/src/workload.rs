@@ -1,12 +1,12 @@
 //! Chequered arenas, and the requests made beforehand from a fixed seed.
 
-use std::fmt::Debug;
+use std::array::from_ref;
 
 use crate::abi::*;
 
 pub const ALIGN: u64 = 8;
 pub const BASE: u64 = 4096;
-/// Pairs of node space beyond the number of ranges.
+/// Pairs of node space beyond the number of ranges, where there is enough.
 pub const SPARE_PAIRS: usize = 16;
 /// Ranges longer than all before them, spread evenly: a find of their size comes to rest there.
 const STAIRS: usize = 8;
@@ -28,10 +28,29 @@ impl Random {
     }
 }
 
-/// Free ranges with granted gaps between them.
+/// How much node space there is for a number of ranges.
+#[derive(Clone, Copy, PartialEq)]
+pub enum Filling {
+    /// Some pairs more than ranges.
+    Roomy,
+    /// Half as many pairs as ranges.
+    Short,
+}
+
+impl Filling {
+    fn capacity(self, ranges: usize) -> usize {
+        match self {
+            Self::Roomy => ranges + SPARE_PAIRS,
+            Self::Short => ranges / 2,
+        }
+    }
+}
+
+/// Free ranges with granted gaps between them, and the capacity of node space.
 pub struct Chequer {
     pub arena: Range,
     pub ranges: Vec<Range>,
+    pub capacity: usize,
 }
 
 fn stair(step: usize) -> u64 {
@@ -40,7 +59,7 @@ fn stair(step: usize) -> u64 {
 
 impl Chequer {
     /// Free ranges of 8 to 32 bytes, a quarter of them grains, and the stairs; gaps of 8 to 32 bytes.
-    pub fn new(count: usize, random: &mut Random) -> Self {
+    pub fn new(count: usize, filling: Filling, random: &mut Random) -> Self {
         let mut lengths: Vec<u64> = (0..count).map(|_| 8 + 8 * random.below(4)).collect();
         for step in 0..STAIRS {
             lengths[step * count / STAIRS] = stair(step);
@@ -53,7 +72,12 @@ impl Chequer {
             ranges.push(Range { base, limit: at });
         }
         let arena = Range { base: BASE, limit: at + 8 };
-        Self { arena, ranges }
+        Self { arena, ranges, capacity: filling.capacity(count) }
+    }
+
+    /// The same arena and node space with some of the ranges.
+    fn with(&self, ranges: Vec<Range>) -> Self {
+        Self { ranges, ..*self }
     }
 
     fn bytes(&self) -> u64 {
@@ -61,16 +85,16 @@ impl Chequer {
     }
 }
 
-/// A land of either kind that holds a chequer's ranges, written down by the paper's layout and by no call.
-pub trait Land: Calls<Proved> + Calls<HandC> + Calls<HandRust> + Copy + PartialEq + Debug {
-    fn holding(chequer: &Chequer) -> (Self, Vec<u64>);
+/// A land of either kind, or a pair, that holds a chequer's ranges, written down by the paper's layout and by no call.
+pub trait Land: Calls<Proved> + Calls<HandC> + Calls<HandRust> + Copy + PartialEq + std::fmt::Debug {
+    fn holding(chequer: &Chequer) -> (Self, Self::Memory);
 
     /// Makes the counts those of a walk that checks nothing.
-    fn recount(&mut self, words: &[u64]);
+    fn recount(&mut self, memory: &Self::Memory);
 }
 
 impl Land for ListLand {
-    fn holding(chequer: &Chequer) -> (Self, Vec<u64>) {
+    fn holding(chequer: &Chequer) -> (Self, Self::Memory) {
         let arena = chequer.arena;
         let mut words = vec![0; ((arena.limit - arena.base) / 8) as usize];
         let mut next = 0;
@@ -92,10 +116,10 @@ impl Land for ListLand {
             ranges: chequer.ranges.len() as u64,
             bytes: chequer.bytes(),
         };
-        (land, words)
+        (land, [words])
     }
 
-    fn recount(&mut self, words: &[u64]) {
+    fn recount(&mut self, [words]: &Self::Memory) {
         (self.ranges, self.bytes) = (0, 0);
         let mut at = self.head;
         while at != 0 && self.ranges < words.len() as u64 {
@@ -110,9 +134,9 @@ impl Land for ListLand {
 }
 
 impl Land for BlockLand {
-    fn holding(chequer: &Chequer) -> (Self, Vec<u64>) {
+    fn holding(chequer: &Chequer) -> (Self, Self::Memory) {
         let mut nodes: Vec<u64> = chequer.ranges.iter().flat_map(|range| [range.base, range.limit]).collect();
-        nodes.resize(nodes.len() + 2 * SPARE_PAIRS, 0);
+        nodes.resize(2 * chequer.capacity, 0);
         let land = Self {
             base: chequer.arena.base,
             limit: chequer.arena.limit,
@@ -120,12 +144,41 @@ impl Land for BlockLand {
             ranges: chequer.ranges.len() as u64,
             bytes: chequer.bytes(),
         };
-        (land, nodes)
+        (land, [nodes])
     }
 
-    fn recount(&mut self, nodes: &[u64]) {
+    fn recount(&mut self, [nodes]: &Self::Memory) {
         let pairs = nodes.chunks_exact(2).take(self.ranges as usize);
         self.bytes = pairs.map(|pair| pair[1].wrapping_sub(pair[0])).fold(0, u64::wrapping_add);
+    }
+}
+
+/// A pair with the ranges that are marked in the block land, and the others in the list.
+pub fn divided(chequer: &Chequer, tabled: &[bool]) -> (Pair, [Vec<u64>; 2]) {
+    let those = |mark| {
+        let marked = chequer.ranges.iter().zip(tabled).filter(|(_, tabled)| **tabled == mark);
+        chequer.with(marked.map(|(range, _)| *range).collect())
+    };
+    let (list, [words]) = ListLand::holding(&those(false));
+    let (block, [nodes]) = BlockLand::holding(&those(true));
+    (Pair { list, block }, [words, nodes])
+}
+
+impl Land for Pair {
+    /// The block land holds as many as it can, anywhere in the arena.
+    fn holding(chequer: &Chequer) -> (Self, Self::Memory) {
+        let count = chequer.ranges.len();
+        let random = &mut Random::new(count as u64);
+        let mut tabled: Vec<bool> = (0..count).map(|i| i < chequer.capacity).collect();
+        for i in 1..count {
+            tabled.swap(i, random.below(i as u64 + 1) as usize);
+        }
+        divided(chequer, &tabled)
+    }
+
+    fn recount(&mut self, [words, nodes]: &Self::Memory) {
+        self.list.recount(from_ref(words));
+        self.block.recount(from_ref(nodes));
     }
 }
 
@@ -143,19 +196,62 @@ pub enum Requests {
 }
 
 impl Requests {
-    pub fn new(workload: u32, chequer: &Chequer, calls: usize, random: &mut Random) -> Self {
+    /// Requests that a land holding the chequer accepts one after the other, tried out on the hand-written Rust. A pair
+    /// refuses to delete what has come to lie in both lands; another request is made then.
+    pub fn new<L: Land>(workload: u32, chequer: &Chequer, calls: usize, random: &mut Random) -> Self {
+        let (land, memory) = L::holding(chequer);
+        let mut trial = Trial { land, memory };
         let pairs = calls.div_ceil(2);
         if workload == 1 {
-            return Self::Changes((0..pairs).flat_map(|_| change_and_back(chequer, random)).collect());
+            let changes = (0..pairs).flat_map(|_| trial.accepted_change(chequer, random));
+            return Self::Changes(changes.collect());
         }
-        let size = |_| stair(random.below(STAIRS as u64) as usize) - 8 * random.below(2);
-        Self::Finds((0..pairs).map(size).collect())
+        Self::Finds((0..pairs).map(|_| trial.accepted_size(random)).collect())
     }
 
     pub fn calls(&self) -> usize {
         match self {
             Self::Changes(changes) => changes.len(),
             Self::Finds(sizes) => 2 * sizes.len(),
+        }
+    }
+}
+
+/// A land on which requests are tried out.
+struct Trial<L: Land> {
+    land: L,
+    memory: L::Memory,
+}
+
+impl<L: Land> Trial<L> {
+    fn change(&mut self, change: Change) -> u64 {
+        let changed = change_by::<HandRust, L>(self.land, &mut self.memory, change);
+        self.land = changed.land;
+        changed.answer
+    }
+
+    /// A change that is accepted, and the one back.
+    fn accepted_change(&mut self, chequer: &Chequer, random: &mut Random) -> [Change; 2] {
+        loop {
+            let [there, back] = change_and_back(chequer, random);
+            if self.change(there) == OK {
+                assert_eq!(self.change(back), OK, "answer to the change back");
+                return [there, back];
+            }
+        }
+    }
+
+    /// A size that is found; what was found is inserted back.
+    fn accepted_size(&mut self, random: &mut Random) -> u64 {
+        loop {
+            let size = stair(random.below(STAIRS as u64) as usize) - 8 * random.below(2);
+            let found = Calls::<HandRust>::find_first(self.land, &mut self.memory, size, MODE_LOW);
+            if found.answer == OK {
+                self.land = found.land;
+                let back = Change { insert: true, range: found.range };
+                assert_eq!(self.change(back), OK, "answer to the change back");
+                return size;
+            }
         }
     }
 }
@@ -190,25 +286,30 @@ fn part_of(range: Range, random: &mut Random) -> Range {
     }
 }
 
+#[inline(always)]
+pub fn change_by<I, L: Calls<I>>(land: L, memory: &mut L::Memory, change: Change) -> Changed<L> {
+    if change.insert {
+        land.insert(memory, change.range)
+    } else {
+        land.delete(memory, change.range)
+    }
+}
+
 /// Plays the requests. Every one must be accepted.
-pub fn play<I, L: Land + Calls<I>>(mut land: L, words: &mut [u64], requests: &Requests) -> L {
+pub fn play<I, L: Land + Calls<I>>(mut land: L, memory: &mut L::Memory, requests: &Requests) -> L {
     let mut answers = 0;
     match requests {
         Requests::Changes(changes) => {
-            for change in changes {
-                let changed = if change.insert {
-                    Calls::<I>::insert(land, words, change.range)
-                } else {
-                    Calls::<I>::delete(land, words, change.range)
-                };
+            for &change in changes {
+                let changed = change_by::<I, L>(land, memory, change);
                 land = changed.land;
                 answers |= changed.answer;
             }
         }
         Requests::Finds(sizes) => {
             for &size in sizes {
-                let found = Calls::<I>::find_first(land, words, size, MODE_LOW);
-                let changed = Calls::<I>::insert(found.land, words, found.range);
+                let found = Calls::<I>::find_first(land, memory, size, MODE_LOW);
+                let changed = Calls::<I>::insert(found.land, memory, found.range);
                 land = changed.land;
                 answers |= found.answer | changed.answer;
             }
