@@ -3,3 +3,4 @@ pub mod Walking
 pub mod Merging
 pub mod Sharing
 pub mod Leaving
+pub mod Passing

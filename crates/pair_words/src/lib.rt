@@ -8,17 +8,36 @@ use units::Addr;
 use units::Arena;
 use units::Range;
 use units::Size;
+ghost use Prim.Native.Nat.{_≤_};
 ghost use mathlib.Core.Bool.{cond};
 ghost use mathlib.Core.Path.{_≡_};
 ghost use lib.Dec.{leb};
 ghost use Rattle.units.specs.declared.aims.Aim.{Aim};
 ghost use Rattle.list_words.specs.Surveys.{walkOf, kept-of};
-ghost use Rattle.block_words.specs.Words.{pairs};
+ghost use Rattle.block_words.specs.Words.{capacity, pairs};
 ghost use Rattle.transfers.specs.Transfers.{Going};
 ghost use Rattle.pair_model.specs.Pairs.{inside};
 ghost use Rattle.pair_model.specs.PairLayouts.{meet};
 ghost use Rattle.pair_words.specs.Shares.{share, Listed, Tabled};
 ghost use Rattle.pair_words.specs.Lefts.{Left};
+ghost use Rattle.pair_words.specs.Passes.{Passed};
+
+// The first pair from number `from` on that ends above an address, or n.
+fn pass(nodes: &[u64], n: usize, from: usize, at: Addr) -> usize
+    requires { ⌜ n ≤ capacity (now nodes) ⌝ }
+    requires { ⌜ from ≤ n ⌝ }
+    ensures { λ r. ⌜ Passed (now (nodes .entry)) n from (at .0) r ⌝ }
+{
+    let mut i = from;
+    while i < n {
+        let pair = block_words::pair_at(nodes, i);
+        if !pair.limit.le(at) {
+            return i;
+        }
+        i += 1;
+    }
+    i
+}
 
 // Whether some range of a sound list overlaps one of a sound table. Both are gone through once, in address order.
 pub fn overlap(arena: Arena, words: &[u64], head: Addr, nodes: &[u64], count: u64) -> bool
@@ -29,22 +48,19 @@ pub fn overlap(arena: Arena, words: &[u64], head: Addr, nodes: &[u64], count: u6
     let low = arena.base;
     let mut at = head;
     let mut i: usize = 0;
-    while i < n {
-        if at.is_zero() {
-            return false;
-        }
+    while !at.is_zero() {
         let Met::Found(end, next) = list_words::step(arena, words, low, at) else {
             return false;
         };
-        let pair = block_words::pair_at(nodes, i);
-        if pair.limit.le(at) {
-            i += 1;
-        } else {
-            if !end.le(pair.base) {
-                return true;
-            }
-            at = next;
+        i = pass(nodes, n, i, at);
+        if n <= i {
+            return false;
         }
+        let pair = block_words::pair_at(nodes, i);
+        if !end.le(pair.base) {
+            return true;
+        }
+        at = next;
     }
     false
 }
