@@ -1,4 +1,5 @@
 pub mod Meets
+pub mod Describing
 pub mod Walking
 pub mod Merging
 pub mod Sharing

@@ -2,7 +2,6 @@
 //
 // Every function here is proved, and the crate assumes nothing of its own. These are inner functions: a `requires`
 // says what the calls of a pair have checked before.
-use list_words::Met;
 use list_words::Spot;
 use units::Addr;
 use units::Arena;
@@ -21,6 +20,29 @@ ghost use Rattle.pair_model.specs.PairLayouts.{meet};
 ghost use Rattle.pair_words.specs.Shares.{share, Listed, Tabled};
 ghost use Rattle.pair_words.specs.Lefts.{Left};
 ghost use Rattle.pair_words.specs.Passes.{Passed};
+ghost use Rattle.pair_words.specs.Descriptors.{Standing, descriptorAt};
+
+// What the descriptor of a range says: its limit, and the base of the next range, or 0.
+pub struct Descriptor {
+    pub limit: Addr,
+    pub next: Addr,
+}
+
+// The descriptor at an address of a sound list.
+fn descriptor_at(arena: Arena, words: &[u64], at: Addr) -> Descriptor
+    requires { ⌜ Standing arena (now words) (at .0) ⌝ }
+    ensures { λ r. ⌜ r ≡ descriptorAt arena (now (words .entry)) (at .0) ⌝ }
+{
+    let i = at.word_from(arena.base);
+    let w = words[i];
+    let next = units::untagged(w);
+    if units::is_tagged(w) {
+        let limit = at.plus(Size::new(8));
+        return Descriptor { limit, next };
+    }
+    let limit = Addr::new(words[i + 1]);
+    Descriptor { limit, next }
+}
 
 // The first pair from number `from` on that ends above an address, or n.
 fn pass(nodes: &[u64], n: usize, from: usize, at: Addr) -> usize
@@ -45,22 +67,19 @@ pub fn overlap(arena: Arena, words: &[u64], head: Addr, nodes: &[u64], count: u6
     ensures { λ r. ⌜ r ≡ meet (walkOf arena (now (words .entry)) (head .0) .met) (pairs (now (nodes .entry)) count) ⌝ }
 {
     let n = count as usize;
-    let low = arena.base;
     let mut at = head;
     let mut i: usize = 0;
     while !at.is_zero() {
-        let Met::Found(end, next) = list_words::step(arena, words, low, at) else {
-            return false;
-        };
+        let here = descriptor_at(arena, words, at);
         i = pass(nodes, n, i, at);
         if n <= i {
             return false;
         }
         let pair = block_words::pair_at(nodes, i);
-        if !end.le(pair.base) {
+        if !here.limit.le(pair.base) {
             return true;
         }
-        at = next;
+        at = here.next;
     }
     false
 }
@@ -101,15 +120,12 @@ pub fn list_share(arena: Arena, words: &[u64], head: Addr, range: Range) -> Size
     requires { ⌜ Listed arena (now words) (head .0) ⌝ }
     ensures { λ r. ⌜ r .0 ≡ inside (range .base .0) (range .limit .0) (walkOf arena (now (words .entry)) (head .0) .met) ⌝ }
 {
-    let low = arena.base;
     let mut at = head;
     let mut sum = Size::new(0);
     while !at.is_zero() {
-        let Met::Found(end, next) = list_words::step(arena, words, low, at) else {
-            return sum;
-        };
-        sum = sum.plus(common(range, Range::new(at, end)));
-        at = next;
+        let here = descriptor_at(arena, words, at);
+        sum = sum.plus(common(range, Range::new(at, here.limit)));
+        at = here.next;
     }
     sum
 }
@@ -143,12 +159,10 @@ pub fn spot_left(arena: Arena, words: &[u64], head: Addr, base: Addr, spot: Spot
             next: head,
         };
     }
-    let low = arena.base;
-    let Met::Found(end, next) = list_words::step(arena, words, low, head) else {
-        return spot;
-    };
-    if base.le(end) {
-        let here = Range::new(head, end);
+    let first = descriptor_at(arena, words, head);
+    if base.le(first.limit) {
+        let here = Range::new(head, first.limit);
+        let next = first.next;
         return Spot { prev, here, next };
     }
     spot
