@@ -1,18 +1,12 @@
--- The ways out of a delete in a pair that was checked: 4; in the list; in the table; 7 and 1. Assumes nothing.
+-- The ways out of a delete in a pair that was checked: in the list; in the table; in neither. Assumes nothing.
 use Prim.Native.Nat.{ℕ, _-_, _≤_}
 use mathlib.Core.Bool.{Bool, true, false}
-use mathlib.Core.List.{List, [], _∷_}
+use mathlib.Core.List.{List}
 use mathlib.Core.Path.{_≡_, refl, sym, subst, _∙_}
 use native.Mathlib.Omega.{arith}
-use types.Run.{OneOf}
-use denote.Enum.Declared.{tagOf}
 use borrow.Author.Tests.{not-false}
-use Rattle.units.specs.Rules.{rangeCheck}
 use Rattle.units.specs.declared.Range as units
 use Rattle.units.specs.declared.Size.{Size}
-use Rattle.units.specs.declared.rules.Arena as units-arena
-use Rattle.units.specs.declared.rules.RangeCheck.{RangeCheck}
-use Rattle.units.proofs.rules.RangeCheck as range-type
 use Rattle.model.specs.Calls.{good-range, accepted}
 use Rattle.model.specs.Marks.{Range, rng, struct}
 use Rattle.model.specs.Lists.{holds, holder}
@@ -36,14 +30,13 @@ use Rattle.block_land.specs.declared.BlockLand.{BlockLand}
 use Rattle.block_land.proofs.EditAnswers as edits
 use Rattle.block_land.proofs.LayoutLaws as block-laws
 use Rattle.pair_model.specs.Pairs.{both, delete, pair-step}
-use Rattle.pair.specs.Calls.{called, changed, deleted, refusedBy}
+use Rattle.pair.specs.Calls.{called, changed, deleted}
 use Rattle.pair.specs.Deletes.{begins, Asked, Unlisted, Spilling, Nowhere}
 use Rattle.pair.specs.Editing.{listLess, tableLess, Taking}
-use Rattle.pair.specs.Parts.{Checked}
 use Rattle.pair.specs.declared.Changed.{Changed}
 use Rattle.pair.specs.declared.Pair.{Pair}
-use Rattle.pair.proofs.Asking.{asked-4, list-fine, block-fine, readable, order, list-good}
-use Rattle.pair.proofs.Calling.{Hands, list-sought, block-aimed, accepts, refuse}
+use Rattle.pair.proofs.Asking.{list-fine, block-fine, readable, order, list-good}
+use Rattle.pair.proofs.Calling.{Hands, list-sought, block-aimed, accepts}
 use Rattle.pair.proofs.DeleteLists.{listed-holds, listed-here, listed-takes}
 use Rattle.pair.proofs.ReachedHere.{begins-holds, spot-reach}
 
@@ -67,14 +60,6 @@ module _ (p : Pair) (ws vs : List ℕ) (y : units.Range) (s : Spot) (e : Entry) 
 
   abbrev qs : List Range
   qs = block.tableOf (p .block) vs
-
-  -- THE RANGE RULE
-  module _ (k : Checked p ws vs (reachLimit y) s e) (a : units-arena.Arena) (ea : a ≡ block-parts.arenaIn (p .block)) (a' : units-arena.Arena) (ea' : a' ≡ a)
-      (r : RangeCheck) (er : r ≡ rangeCheck (a' .base .0) (a' .limit .0) (a' .align .0) (y .base .0) (y .limit .0)) where
-    pub delete-4 : OneOf (1 ∷ 2 ∷ 3 ∷ 4 ∷ []) (tagOf range-type.the-type r) → (w : Changed) → w ≡ refusedBy p 4 → Deletes p ws vs y w ws vs
-    delete-4 t w ew =
-        refuse changed p ws vs 4 (deleted p ws vs y)
-        (is-delete p ws vs y ∙ asked-4 p ws vs y s e k a ea a' ea' r er (delete b l) (λ g. rw g) t) w ew
 
   module _ (k : Asked p ws vs y s e) where
     -- an accepted step, with the handles and the words that it leaves
