@@ -96,7 +96,7 @@ module _ (p : Pair) (ws vs : List ℕ) where
 abbrev pub refusal : Pair → List ℕ → List ℕ → ℕ → PairDone
 refusal p ws vs n = record { out = refused n; handle = lands p; words = both ws vs }
 
--- f says what is told of it
+-- what f reads of a result, and the words of both memories
 abbrev pub Hands : {R : Type 0} → (PairDone → R) → PairDone → R → List ℕ → List ℕ → Type 0
 Hands f d w ws' vs' = (w ≡ f d) × (ws' ≡ d .words .list) × (vs' ≡ d .words .block)
 
