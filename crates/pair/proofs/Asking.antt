@@ -11,7 +11,7 @@ use Rattle.units.specs.declared.aims.Aim.{Aim}
 use Rattle.units.specs.declared.rules.Arena as units-arena
 use Rattle.units.specs.declared.rules.RangeCheck.{RangeCheck}
 use Rattle.units.proofs.rules.RangeCheck as range-type
-use Rattle.model.specs.Calls.{good-range, refused}
+use Rattle.model.specs.Calls.{good-range}
 use Rattle.model.proofs.Checks.{range-bad, range-good}
 use Rattle.list_words.specs.declared.Spot.{Spot}
 use Rattle.list_land.specs.Layout as list
@@ -22,10 +22,10 @@ use Rattle.block_land.specs.Parts as block-parts
 use Rattle.block_land.proofs.EditAnswers as edits
 use Rattle.block_land.proofs.Sound as block-sound
 use Rattle.pair_model.specs.Pairs.{PairCall, both, keep, pair-step}
-use Rattle.pair.specs.Calls.{called, lands}
+use Rattle.pair.specs.Calls.{PairDone, called}
 use Rattle.pair.specs.Parts.{Checked, Ranged}
 use Rattle.pair.specs.declared.Pair.{Pair}
-use Rattle.pair.proofs.Calling.{list-sought, block-aimed, refuses}
+use Rattle.pair.proofs.Calling.{Hands, refusal, refuse, list-sought, block-aimed, refuses}
 use Rattle.pair.proofs.Checking.{same-up}
 
 module _ (p : Pair) (ws vs : List ℕ) {aim : Aim} (y : units.Range) (s : Spot) (e : Entry) where
@@ -40,11 +40,12 @@ module _ (p : Pair) (ws vs : List ℕ) {aim : Aim} (y : units.Range) (s : Spot) 
 
       module _ (r : RangeCheck) (er : r ≡ rangeCheck (a' .base .0) (a' .limit .0) (a' .align .0) (y .base .0) (y .limit .0)) where
         -- of any call that answers 4 where the rule is broken
-        pub asked-4 : (c : PairCall) →
+        pub asked-4 : {R : Type 0} (g : PairDone → R) (c : PairCall) (d : PairDone) → d ≡ called c p ws vs →
             (good-range (block.arenaOf (p .block) vs) (y .base .0) (y .limit .0) ≡ false → pair-step (block.arenaOf (p .block) vs) c (both (list.walkOf (p .list) ws .met) (block.tableOf (p .block) vs))
             ≡ keep 4 (both (list.walkOf (p .list) ws .met) (block.tableOf (p .block) vs))) →
-            OneOf (1 ∷ 2 ∷ 3 ∷ 4 ∷ []) (tagOf range-type.the-type r) → called c p ws vs ≡ record { out = refused 4; handle = lands p; words = both ws vs }
-        asked-4 c f t = refuses p ws vs aim s e k c 4 refl (f (range-bad (block.arenaOf (p .block) vs) a' (ea' ∙ ea) y r er t))
+            OneOf (1 ∷ 2 ∷ 3 ∷ 4 ∷ []) (tagOf range-type.the-type r) → (w : R) → w ≡ g (refusal p ws vs 4) → Hands g d w ws vs
+        asked-4 g c d ed f t =
+            refuse g p ws vs 4 d (ed ∙ refuses p ws vs aim s e k c 4 refl (f (range-bad (block.arenaOf (p .block) vs) a' (ea' ∙ ea) y r er t)))
 
         pub asked-good : r ≡ RangeCheck.Good → Ranged p ws vs aim y s e
         asked-good f = record { checked = k; good = range-good (block.arenaOf (p .block) vs) a' (ea' ∙ ea) y r er f }

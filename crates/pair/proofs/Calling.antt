@@ -2,7 +2,7 @@
 use Prim.Native.Nat.{ℕ}
 use mathlib.Core.Bool.{Bool, true, false, not, cond, _&&_}
 use mathlib.Core.List.{List}
-use mathlib.Core.Path.{_≡_, refl}
+use mathlib.Core.Path.{_≡_, refl, sym, ap, _∙_}
 use native.Mathlib.Omega.{arith}
 use lib.Dec.{eqb}
 use borrow.Author.Tests.{not-true, not-false}
@@ -28,10 +28,8 @@ use Rattle.flush.specs.Flush as flush-check
 use Rattle.flush.specs.declared.FlushCheck.{FlushCheck}
 use Rattle.pair_model.specs.Pairs.{both, PairCall, Sets, keep, pair-step}
 use Rattle.pair_model.specs.PairLayouts.{meet, pair-read}
-use Rattle.pair.specs.Calls.{lands, PairDone, called, changed, foundOf, refusedBy, foundNone}
+use Rattle.pair.specs.Calls.{lands, PairDone, called}
 use Rattle.pair.specs.Parts.{setUp, sound, checkOf, Checked}
-use Rattle.pair.specs.declared.Changed.{Changed}
-use Rattle.pair.specs.declared.Found.{Found}
 use Rattle.pair.specs.declared.Pair.{Pair}
 use Rattle.pair.specs.declared.PairCheck.{PairCheck}
 use Rattle.pair.proofs.Checking.{list-up, block-up, flush-good}
@@ -93,6 +91,19 @@ module _ (p : Pair) (ws vs : List ℕ) where
         let m = not-true (meet rs qs) (and-right (block.sound (p .block) vs) _ r) in
         rw (list-laws.held (p .list) ws (list-up p ws vs g) s, block-laws.held (p .block) vs (block-up p ws vs g) t, same, m)
 
+-- WHAT A CALL HANDS BACK
+-- a refusal: the handles and the words given
+abbrev pub refusal : Pair → List ℕ → List ℕ → ℕ → PairDone
+refusal p ws vs n = record { out = refused n; handle = lands p; words = both ws vs }
+
+-- what f reads of a result, and the words of both memories
+abbrev pub Hands : {R : Type 0} → (PairDone → R) → PairDone → R → List ℕ → List ℕ → Type 0
+Hands f d w ws' vs' = (w ≡ f d) × (ws' ≡ d .words .list) × (vs' ≡ d .words .block)
+
+pub refuse : {R : Type 0} (f : PairDone → R) (p : Pair) (ws vs : List ℕ) (n : ℕ) (d : PairDone) → d ≡ refusal p ws vs n →
+    (w : R) → w ≡ f (refusal p ws vs n) → Hands f d w ws vs
+refuse f p ws vs n d e w ew = (ew ∙ ap f (sym e), rw e, rw e)
+
 -- WHAT A CHECK SAYS
 module _ (p : Pair) (ws vs : List ℕ) (aim : Aim) where
   abbrev spot : Spot
@@ -123,13 +134,19 @@ module _ (p : Pair) (ws vs : List ℕ) (aim : Aim) where
     saw-checked s e f = let w = whole (setUp p ws vs) (sound p ws vs) v ev s e f in record { good = w .0; whole = w .1; spot = w .2; entry = w .3 }
 
     -- 5 and 6, of any call
-    pub answers-5 : (c : PairCall) → v ≡ PairCheck.BadSetUp → called c p ws vs ≡ record { out = refused 5; handle = lands p; words = both ws vs }
-    unfolding checkOf
-    answers-5 c f = rw (reads-5 p ws vs (bad (setUp p ws vs) (sound p ws vs) v ev f))
+    module _ {R : Type 0} (g : PairDone → R) (c : PairCall) (d : PairDone) (ed : d ≡ called c p ws vs) where
+      pub answers-5 : v ≡ PairCheck.BadSetUp → (w : R) → w ≡ g (refusal p ws vs 5) → Hands g d w ws vs
+      unfolding checkOf
+      answers-5 f =
+          let e : called c p ws vs ≡ refusal p ws vs 5 = rw (reads-5 p ws vs (bad (setUp p ws vs) (sound p ws vs) v ev f)) in
+          refuse g p ws vs 5 d (ed ∙ e)
 
-    pub answers-6 : (c : PairCall) → v ≡ PairCheck.Damaged → called c p ws vs ≡ record { out = refused 6; handle = lands p; words = both ws vs }
-    unfolding checkOf
-    answers-6 c f = let w = damaged (setUp p ws vs) (sound p ws vs) v ev f in rw (reads-6 p ws vs (w .0) (w .1))
+      pub answers-6 : v ≡ PairCheck.Damaged → (w : R) → w ≡ g (refusal p ws vs 6) → Hands g d w ws vs
+      unfolding checkOf
+      answers-6 f =
+          let t = damaged (setUp p ws vs) (sound p ws vs) v ev f in
+          let e : called c p ws vs ≡ refusal p ws vs 6 = rw (reads-6 p ws vs (t .0) (t .1)) in
+          refuse g p ws vs 6 d (ed ∙ e)
 
 -- A PAIR THAT WAS CHECKED
 module _ (p : Pair) (ws vs : List ℕ) (aim : Aim) (s : Spot) (e : Entry) (k : Checked p ws vs aim s e) where
@@ -158,7 +175,7 @@ module _ (p : Pair) (ws vs : List ℕ) (aim : Aim) (s : Spot) (e : Entry) (k : C
   pub refuses : (c : PairCall) (n : ℕ) → eqb n 0 ≡ false →
       pair-step (block.arenaOf (p .block) vs) c (both (list.walkOf (p .list) ws .met) (block.tableOf (p .block) vs))
       ≡ keep n (both (list.walkOf (p .list) ws .met) (block.tableOf (p .block) vs)) →
-      called c p ws vs ≡ record { out = refused n; handle = lands p; words = both ws vs }
+      called c p ws vs ≡ refusal p ws vs n
   refuses c n z d = rw (reads-both p ws vs (k .good) (k .whole), d, z)
 
   pub accepts : (c : PairCall) (f r : Range) (rs' qs' : List Range) →
@@ -169,11 +186,3 @@ module _ (p : Pair) (ws vs : List ℕ) (aim : Aim) (s : Spot) (e : Entry) (k : C
         words = both (lay (list.base (p .list)) rs' ws) (fill qs' vs);
       }
   accepts c f r rs' qs' d = rw (reads-both p ws vs (k .good) (k .whole), d)
-
--- a refusal hands back the handles and the words
-module _ (p : Pair) (ws vs : List ℕ) (d : PairDone) (n : ℕ) (e : d ≡ record { out = refused n; handle = lands p; words = both ws vs }) where
-  pub refuse-change : (w : Changed) → w ≡ refusedBy p n → (ws' vs' : List ℕ) → ws' ≡ ws → vs' ≡ vs → (w ≡ changed d) × (ws' ≡ d .words .list) × (vs' ≡ d .words .block)
-  refuse-change w ew ws' vs' f g = (rw e ew, rw e f, rw e g)
-
-  pub refuse-find : (w : Found) → w ≡ foundNone p n → (ws' vs' : List ℕ) → ws' ≡ ws → vs' ≡ vs → (w ≡ foundOf d) × (ws' ≡ d .words .list) × (vs' ≡ d .words .block)
-  refuse-find w ew ws' vs' f g = (rw e ew, rw e f, rw e g)

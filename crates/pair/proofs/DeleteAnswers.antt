@@ -1,19 +1,13 @@
--- The ways out of a delete in a pair that was checked: 4; in the list; in the table; 7 and 1. Assumes nothing.
+-- The ways out of a delete in a pair that was checked: in the list; in the table; in neither. Assumes nothing.
 use Prim.Native.Nat.{ℕ, _-_, _≤_}
 use mathlib.Core.Bool.{Bool, true, false}
-use mathlib.Core.List.{List, [], _∷_}
+use mathlib.Core.List.{List}
 use mathlib.Core.Path.{_≡_, refl, sym, subst, _∙_}
 use native.Mathlib.Omega.{arith}
-use types.Run.{OneOf}
-use denote.Enum.Declared.{tagOf}
 use borrow.Author.Tests.{not-false}
-use Rattle.units.specs.Rules.{rangeCheck}
 use Rattle.units.specs.declared.Range as units
 use Rattle.units.specs.declared.Size.{Size}
-use Rattle.units.specs.declared.rules.Arena as units-arena
-use Rattle.units.specs.declared.rules.RangeCheck.{RangeCheck}
-use Rattle.units.proofs.rules.RangeCheck as range-type
-use Rattle.model.specs.Calls.{accepted}
+use Rattle.model.specs.Calls.{good-range, accepted}
 use Rattle.model.specs.Marks.{Range, rng, struct}
 use Rattle.model.specs.Lists.{holds, holder}
 use Rattle.model.proofs.Totals.{total-delete}
@@ -21,7 +15,7 @@ use Rattle.list_words.specs.Laying.{lay}
 use Rattle.list_words.specs.declared.Spot.{Spot}
 use Rattle.list_words.proofs.Laid.{lay-laid}
 use Rattle.list_land.specs.Layout as list
-use Rattle.list_land.specs.Parts.{reachLimit}
+use Rattle.list_land.specs.Parts.{Sought, reachLimit}
 use Rattle.list_land.specs.declared.ListLand.{ListLand}
 use Rattle.list_land.proofs.LayoutLaws as list-laws
 use Rattle.block_words.specs.Words.{fill}
@@ -36,15 +30,14 @@ use Rattle.block_land.specs.declared.BlockLand.{BlockLand}
 use Rattle.block_land.proofs.EditAnswers as edits
 use Rattle.block_land.proofs.LayoutLaws as block-laws
 use Rattle.pair_model.specs.Pairs.{both, delete, pair-step}
-use Rattle.pair.specs.Calls.{called, changed, deleted, refusedBy}
-use Rattle.pair.specs.Deletes.{begins, listLess, tableLess, listHandle, listWords, Listed, Asked, Unlisted, Spilling, Nowhere}
-use Rattle.pair.specs.Parts.{checkOf, Checked}
+use Rattle.pair.specs.Calls.{called, changed, deleted}
+use Rattle.pair.specs.Deletes.{begins, Asked, Unlisted, Spilling, Nowhere}
+use Rattle.pair.specs.Editing.{listLess, tableLess, Taking}
 use Rattle.pair.specs.declared.Changed.{Changed}
 use Rattle.pair.specs.declared.Pair.{Pair}
-use Rattle.pair.specs.declared.PairCheck.{PairCheck}
-use Rattle.pair.proofs.Asking.{asked-4, list-fine, block-fine, readable, order, list-good}
-use Rattle.pair.proofs.Calling.{answers-5, answers-6, list-sought, block-aimed, accepts, refuse-change}
-use Rattle.pair.proofs.DeleteLists.{listed-holds, listed-here}
+use Rattle.pair.proofs.Asking.{list-fine, block-fine, readable, order, list-good}
+use Rattle.pair.proofs.Calling.{Hands, list-sought, block-aimed, accepts}
+use Rattle.pair.proofs.DeleteLists.{listed-holds, listed-here, listed-takes}
 use Rattle.pair.proofs.ReachedHere.{begins-holds, spot-reach}
 
 pub is-delete : (p : Pair) (ws vs : List ℕ) (y : units.Range) → deleted p ws vs y ≡ called (delete (y .base .0) (y .limit .0)) p ws vs
@@ -53,7 +46,7 @@ is-delete p ws vs y = refl
 
 -- what a delete hands back
 abbrev pub Deletes : Pair → List ℕ → List ℕ → units.Range → Changed → List ℕ → List ℕ → Type 0
-Deletes p ws vs y w ws' vs' = (w ≡ changed (deleted p ws vs y)) × (ws' ≡ deleted p ws vs y .words .list) × (vs' ≡ deleted p ws vs y .words .block)
+Deletes p ws vs y = Hands changed (deleted p ws vs y)
 
 module _ (p : Pair) (ws vs : List ℕ) (y : units.Range) (s : Spot) (e : Entry) where
   abbrev b : ℕ
@@ -68,14 +61,6 @@ module _ (p : Pair) (ws vs : List ℕ) (y : units.Range) (s : Spot) (e : Entry) 
   abbrev qs : List Range
   qs = block.tableOf (p .block) vs
 
-  -- THE RANGE RULE
-  module _ (k : Checked p ws vs (reachLimit y) s e) (a : units-arena.Arena) (ea : a ≡ block-parts.arenaIn (p .block)) (a' : units-arena.Arena) (ea' : a' ≡ a)
-      (r : RangeCheck) (er : r ≡ rangeCheck (a' .base .0) (a' .limit .0) (a' .align .0) (y .base .0) (y .limit .0)) where
-    pub delete-4 : OneOf (1 ∷ 2 ∷ 3 ∷ 4 ∷ []) (tagOf range-type.the-type r) → (w : Changed) → w ≡ refusedBy p 4 → Deletes p ws vs y w ws vs
-    delete-4 t w ew =
-        refuse-change p ws vs (deleted p ws vs y) 4
-        (is-delete p ws vs y ∙ asked-4 p ws vs y s e k a ea a' ea' r er (delete b l) (λ g. rw g) t) w ew ws vs refl refl
-
   module _ (k : Asked p ws vs y s e) where
     -- an accepted step, with the handles and the words that it leaves
     pub does : (f : Range) (rs' qs' : List Range) →
@@ -89,15 +74,20 @@ module _ (p : Pair) (ws vs : List ℕ) (y : units.Range) (s : Spot) (e : Entry) 
 
     -- IN THE LIST
     module _ (t : Bool) (et : t ≡ begins y (s .here)) where
-      pub in-list-at : t ≡ true → Listed (p .list) ws y s
-      in-list-at f = record { sought = list-sought p ws vs (reachLimit y) s e (k .checked); good = list-good p ws vs y s e k; here = sym et ∙ f }
+      sought : Sought (p .list) ws (reachLimit y) s
+      sought = list-sought p ws vs (reachLimit y) s e (k .checked)
 
-      pub in-list-0 : t ≡ true → (h : ListLand) (ws' : List ℕ) → (h ≡ listHandle (p .list) (listLess (p .list) ws y)) × (ws' ≡ listWords (p .list) (listLess (p .list) ws y) ws) →
+      good : good-range (list.arenaOf (p .list)) (y .base .0) (y .limit .0) ≡ true
+      good = list-good p ws vs y s e k
+
+      pub in-list-takes : t ≡ true → Taking (p .list) ws y s
+      in-list-takes f = listed-takes (p .list) ws y s sought good (sym et ∙ f)
+
+      pub in-list-0 : t ≡ true → (h : ListLand) (ws' : List ℕ) → (h ≡ list.closed (p .list) (listLess (p .list) ws y)) × (ws' ≡ lay (list.base (p .list)) (listLess (p .list) ws y) ws) →
           Deletes p ws vs y (record { pair = record { list = h; block = p .block }; answer = 0; range = s .here }) ws' vs
       in-list-0 f h ws' g =
-          let at = in-list-at f in
-          does (holder b l rs) (listLess (p .list) ws y) qs (rw (k .good, listed-holds (p .list) ws y s at))
-          (s .here) (listed-here (p .list) ws y s at) h (g .0) (p .block) (sym (block-laws.handle-back (p .block) vs (block-fine p ws vs y s e k)))
+          does (holder b l rs) (listLess (p .list) ws y) qs (rw (k .good, listed-holds (p .list) ws y s sought good (sym et ∙ f)))
+          (s .here) (listed-here (p .list) ws y s sought good (sym et ∙ f)) h (g .0) (p .block) (sym (block-laws.handle-back (p .block) vs (block-fine p ws vs y s e k)))
           ws' vs (g .1) (sym (block-laws.words-back (p .block) vs (block-fine p ws vs y s e k)))
 
       pub not-in-list : t ≡ false → Unlisted p ws vs y s e
@@ -157,15 +147,3 @@ module _ (p : Pair) (ws vs : List ℕ) (y : units.Range) (s : Spot) (e : Entry) 
             x (o .range) (p .list) (sym (list-laws.handle-back (p .list) ws rs lf refl))
             h (eh ∙ edits.closes (p .block) (tableLess (p .block) vs y) m t (o .count) (omega arith))
             ws vs' (sym (lay-laid (list.base (p .list)) rs ws (lf .laid))) (d .1 ∙ cut-words vs (p .block .ranges) y (Edited.Done x m) q)
-
--- 5 AND 6
-module _ (p : Pair) (ws vs : List ℕ) (y : units.Range) (v : PairCheck) (ev : v ≡ checkOf p ws vs (reachLimit y)) where
-  pub delete-5 : v ≡ PairCheck.BadSetUp → (w : Changed) → w ≡ refusedBy p 5 → Deletes p ws vs y w ws vs
-  delete-5 f w ew =
-      refuse-change p ws vs (deleted p ws vs y) 5
-      (is-delete p ws vs y ∙ answers-5 p ws vs (reachLimit y) v ev (delete (y .base .0) (y .limit .0)) f) w ew ws vs refl refl
-
-  pub delete-6 : v ≡ PairCheck.Damaged → (w : Changed) → w ≡ refusedBy p 6 → Deletes p ws vs y w ws vs
-  delete-6 f w ew =
-      refuse-change p ws vs (deleted p ws vs y) 6
-      (is-delete p ws vs y ∙ answers-6 p ws vs (reachLimit y) v ev (delete (y .base .0) (y .limit .0)) f) w ew ws vs refl refl

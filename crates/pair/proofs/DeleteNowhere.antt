@@ -22,11 +22,11 @@ use Rattle.flush.proofs.FlushAnswers.{going}
 use Rattle.pair_model.specs.Pairs.{both, delete, inside, all-inside}
 use Rattle.pair_words.specs.Shares as shares
 use Rattle.pair_words.proofs.Sharing.{inside-total}
-use Rattle.pair.specs.Calls.{deleted, refusedBy}
+use Rattle.pair.specs.Calls.{changed, deleted, refusedBy}
 use Rattle.pair.specs.Deletes.{Asked, Nowhere}
 use Rattle.pair.specs.declared.Changed.{Changed}
 use Rattle.pair.specs.declared.Pair.{Pair}
-use Rattle.pair.proofs.Calling.{flush-checked, refuses, refuse-change}
+use Rattle.pair.proofs.Calling.{flush-checked, refuses, refuse}
 use Rattle.pair.proofs.Asking.{list-fine, block-fine, readable, order-le}
 use Rattle.pair.proofs.DeleteAnswers.{is-delete, Deletes}
 
@@ -90,12 +90,12 @@ module _ (p : Pair) (ws vs : List ℕ) (y : units.Range) (k : Nowhere p ws vs y)
 
         pub nowhere-7 : t ≡ true → (w : Changed) → w ≡ refusedBy p 7 → Deletes p ws vs y w ws vs
         nowhere-7 f w ew =
-            refuse-change p ws vs (deleted p ws vs y) 7
+            refuse changed p ws vs 7 (deleted p ws vs y)
             (is-delete p ws vs y
-            ∙ refuses p ws vs (reachLimit y) s e (asked .checked) (delete b l) 7 refl (rw (asked .good, k .asked .unlisted, k .none, all-there ∙ f))) w ew ws vs refl refl
+            ∙ refuses p ws vs (reachLimit y) s e (asked .checked) (delete b l) 7 refl (rw (asked .good, k .asked .unlisted, k .none, all-there ∙ f))) w ew
 
         pub nowhere-1 : t ≡ false → (w : Changed) → w ≡ refusedBy p 1 → Deletes p ws vs y w ws vs
         nowhere-1 f w ew =
-            refuse-change p ws vs (deleted p ws vs y) 1
+            refuse changed p ws vs 1 (deleted p ws vs y)
             (is-delete p ws vs y
-            ∙ refuses p ws vs (reachLimit y) s e (asked .checked) (delete b l) 1 refl (rw (asked .good, k .asked .unlisted, k .none, all-there ∙ f))) w ew ws vs refl refl
+            ∙ refuses p ws vs (reachLimit y) s e (asked .checked) (delete b l) 1 refl (rw (asked .good, k .asked .unlisted, k .none, all-there ∙ f))) w ew

@@ -1,27 +1,20 @@
 -- A flushed pair, and a range that enters it: the ways out of `Pair::flushed`, `Pair::enter_list` and `Pair::enter`. Assumes nothing.
 use Prim.Native.Nat.{ℕ, _+_, _-_, _<_}
-use mathlib.Core.Bool.{true}
 use mathlib.Core.List.{List}
-use mathlib.Core.Path.{_≡_, sym, ap, ap₂, _∙_}
+use mathlib.Core.Path.{_≡_, sym, ap, _∙_}
 use native.Mathlib.Omega.{arith}
 use Rattle.units.specs.declared.Range as units
 use Rattle.units.specs.declared.Size.{Size}
 use Rattle.units.specs.declared.aims.Aim.{Aim}
 use Rattle.units.specs.declared.rules.Arena.{Arena}
 use Rattle.units.proofs.Tests.{clash}
-use Rattle.model.specs.Marks.{Range}
 use Rattle.model.proofs.Totals.{total-insert}
+use Rattle.list_words.specs.Laying.{lay}
 use Rattle.list_words.specs.Surveys.{walkOf, kept-of}
-use Rattle.list_words.specs.declared.Chain.{Chain}
 use Rattle.list_words.specs.declared.Spot.{Spot}
-use Rattle.list_edits.specs.Chains as chains
-use Rattle.list_edits.specs.Chains.{metOf, Held, mayAsk}
-use Rattle.list_edits.specs.declared.Edited as list-edited
-use Rattle.list_edits.proofs.Answered as list-answered
 use Rattle.list_land.specs.Layout as list
 use Rattle.list_land.specs.Parts as list-parts
 use Rattle.list_land.specs.declared.ListLand.{ListLand}
-use Rattle.list_land.proofs.Requests as list-requests
 use Rattle.block_edits.specs.Edits as edits
 use Rattle.block_edits.specs.Edits.{Sorted}
 use Rattle.block_edits.specs.declared.Edited.{Edited}
@@ -33,9 +26,11 @@ use Rattle.block_land.proofs.EditAnswers.{closes, whole, sorted, few-bytes}
 use Rattle.flush.specs.Flush.{flushed}
 use Rattle.flush.specs.declared.Flushed.{Flushed}
 use Rattle.pair_words.specs.Lefts.{Left}
-use Rattle.pair.specs.Inserts.{flushedPair, listed, enterList, enterWords, Roomless, blocked, enteredNodes, entered, enteredWords, Open}
+use Rattle.pair.specs.Editing.{listMore, given, Giving}
+use Rattle.pair.specs.Inserts.{flushedPair, enterList, enterWords, Roomless, blocked, enteredNodes, entered, enteredWords, Open}
 use Rattle.pair.specs.declared.Changed.{Changed}
 use Rattle.pair.specs.declared.Pair.{Pair}
+use Rattle.pair.specs.declared.edits.Given.{Given}
 
 -- THE FLUSH
 pub flushed-pair : (p : Pair) (ws vs vs' : List ℕ) (h : ListLand) (k : BlockLand) (m s : ℕ) →
@@ -44,38 +39,19 @@ pub flushed-pair : (p : Pair) (ws vs vs' : List ℕ) (h : ListLand) (k : BlockLa
 flushed-pair p ws vs vs' h k m s e = (ap (λ (f : Flushed). record { list = f .list; block = f .block }) (e .0), e .1)
 
 -- INTO THE LIST
-module _ (p : Pair) (ws : List ℕ) (y : units.Range) (s : Spot) (k : Roomless p ws y s) (a : Arena) (ea : a ≡ list-parts.arenaIn (p .list)) where
-  pub enter-left : Left a ws (p .list .head) (y .base) s
-  enter-left = rw ea (k .left)
+module _ (p : Pair) (ws : List ℕ) (y : units.Range) (s : Spot) (k : Roomless p ws y s) where
+  module _ (a : Arena) (ea : a ≡ list-parts.arenaIn (p .list)) where
+    pub enter-left : Left a ws (p .list .head) (y .base) s
+    enter-left = rw ea (k .left)
 
-  module _ (c : Chain) (ec : c ≡ list-parts.chainIn (p .list)) where
-    same-met : metOf a ws c ≡ list.walkOf (p .list) ws .met
-    same-met = rw (ea, ec)
+    pub enter-giving : (t : Spot) → t ≡ kept-of (Aim.Reach (y .base)) (walkOf a ws (p .list .head .0) .met) → Giving (p .list) ws y t
+    enter-giving t et =
+        let u : t ≡ kept-of (Aim.Reach (y .base)) (list.walkOf (p .list) ws .met) = rw ea at et in
+        record { sought = record { good = k .good; whole = k .whole; kept = u }; good = k .asked; apart = k .clear }
 
-    pub enter-held : (t : Spot) → t ≡ kept-of (Aim.Reach (y .base)) (walkOf a ws (p .list .head .0) .met) → Held a ws c (Aim.Reach (y .base)) t × (mayAsk a y ≡ true)
-    enter-held t et =
-        let u : t ≡ kept-of (Aim.Reach (y .base)) (list.walkOf (p .list) ws .met) = rw ea at et in (
-          list-requests.sought-held (p .list) ws (Aim.Reach (y .base)) t (record { good = k .good; whole = k .whole; kept = u }) a ea c ec,
-          rw ea (k .asked),
-        )
-
-    module _ (d : list-edited.Edited) (ws' : List ℕ) (ed : (d ≡ chains.putOf (metOf a ws c) y) × (ws' ≡ chains.putWords (metOf a ws c) y (a .base .0) ws)) where
-      here : d ≡ chains.putOf (list.walkOf (p .list) ws .met) y
-      here = ed .0 ∙ ap (λ (rs : List Range). chains.putOf rs y) same-met
-
-      pub enter-refused : {P : Type 0} → d ≡ list-edited.Edited.Refused → P
-      enter-refused f = clash (list-answered.answer-refused (list.walkOf (p .list) ws .met) y (sym here ∙ f)) (k .clear)
-
-      pub enter-listed : (n : Chain) (x : units.Range) → d ≡ list-edited.Edited.Done n x → (z : ListLand) → z ≡ list-parts.closedWith (p .list) (n .head) (n .ranges) (n .bytes) →
-          (record { pair = record { list = z; block = p .block }; answer = 0; range = x } ≡ enterList p ws y) × (ws' ≡ enterWords p ws y)
-      enter-listed n x f z ez =
-          let o = list-answered.answer-done (list.walkOf (p .list) ws .met) y n x (sym here ∙ f) in
-          let u = list-requests.closes (p .list) (listed p ws y) n (o .chain) z ez in
-          let v = o .range in
-          let w = list-answered.words-done (list.walkOf (p .list) ws .met) y (list.base (p .list)) ws (k .clear) in
-          let q : ws' ≡ chains.putWords (list.walkOf (p .list) ws .met) y (list.base (p .list)) ws =
-          ed .1 ∙ ap₂ (λ (rs : List Range) (b : ℕ). chains.putWords rs y b ws) same-met (ap (λ (x : Arena). x .base .0) ea) in
-          ((λ i. record { pair = record { list = u i; block = p .block }; answer = 0; range = v i }), q ∙ w)
+  pub enter-listed : (g : Given) (ws' : List ℕ) → (g ≡ given (p .list) ws y) × (ws' ≡ lay (list.base (p .list)) (listMore (p .list) ws y) ws) →
+      (record { pair = record { list = g .list; block = p .block }; answer = 0; range = g .range } ≡ enterList p ws y) × (ws' ≡ enterWords p ws y)
+  enter-listed g ws' e = (ap (λ (x : Given). record { pair = record { list = x .list; block = p .block }; answer = 0; range = x .range }) (e .0), e .1)
 
 -- INTO THE BLOCK LAND
 module _ (p : Pair) (ws vs : List ℕ) (y : units.Range) (s : Spot) (k : Open p ws vs y s) where

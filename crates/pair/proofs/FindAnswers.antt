@@ -39,7 +39,7 @@ use Rattle.pair.specs.declared.Pair.{Pair}
 use Rattle.pair.specs.declared.PairCheck.{PairCheck}
 use Rattle.pair.specs.declared.find.Side.{Side}
 use Rattle.pair.proofs.Checking.{same-up}
-use Rattle.pair.proofs.Calling.{saw-checked, answers-5, answers-6, list-sought, block-aimed, refuses, accepts, refuse-find}
+use Rattle.pair.proofs.Calling.{Hands, saw-checked, answers-5, answers-6, list-sought, block-aimed, refuses, accepts, refuse}
 use Rattle.pair.proofs.FindLands.{list-here, list-above, list-ordered, block-here, block-above, block-ordered, list-accepts, list-done, block-accepts, block-done}
 use Rattle.pair.proofs.Sides.{list-there, block-there, by-side, side-step}
 
@@ -64,10 +64,7 @@ module _ (p : Pair) (ws vs : List ℕ) (w : Which) (n : Size) (mode : Mode) (s :
   c = land.find w (n .0) mode
 
   abbrev Gives : Found → List ℕ → List ℕ → Type 0
-  Gives v ws' vs' =
-      (v ≡ foundOf (found p ws vs w (n .0) mode))
-      × (ws' ≡ found p ws vs w (n .0) mode .words .list)
-      × (vs' ≡ found p ws vs w (n .0) mode .words .block)
+  Gives = Hands foundOf (found p ws vs w (n .0) mode)
 
   one : OneArena (p .list) (p .block)
   one = same-up p ws vs (k .good)
@@ -88,8 +85,8 @@ module _ (p : Pair) (ws vs : List ℕ) (w : Which) (n : Size) (mode : Mode) (s :
 
   pub find-4 : good-size (block.arenaOf (p .block) vs) w (n .0) ≡ false → (v : Found) → v ≡ foundNone p 4 → Gives v ws vs
   find-4 g v ev =
-      refuse-find p ws vs (found p ws vs w (n .0) mode) 4
-      (is-found p ws vs w (n .0) mode ∙ refuses p ws vs (findAim p w n) s e k (find w (n .0) mode) 4 refl (rw g)) v ev ws vs refl refl
+      refuse foundOf p ws vs 4 (found p ws vs w (n .0) mode)
+      (is-found p ws vs w (n .0) mode ∙ refuses p ws vs (findAim p w n) s e k (find w (n .0) mode) 4 refl (rw g)) v ev
 
   module _ (g : good-size (block.arenaOf (p .block) vs) w (n .0) ≡ true) (t : Side) (et : t ≡ sideOf w (s .here) (e .here)) where
     -- the step is the one of the side that the code takes
@@ -104,9 +101,9 @@ module _ (p : Pair) (ws vs : List ℕ) (w : Which) (n : Size) (mode : Mode) (s :
 
     pub find-2 : t ≡ Side.Neither → (v : Found) → v ≡ foundNone p 2 → Gives v ws vs
     find-2 h v ev =
-        refuse-find p ws vs (found p ws vs w (n .0) mode) 2
+        refuse foundOf p ws vs 2 (found p ws vs w (n .0) mode)
         (is-found p ws vs w (n .0) mode
-        ∙ refuses p ws vs (findAim p w n) s e k (find w (n .0) mode) 2 refl (stepped ∙ ap (by-side a c w sets) h)) v ev ws vs refl refl
+        ∙ refuses p ws vs (findAim p w n) s e k (find w (n .0) mode) 2 refl (stepped ∙ ap (by-side a c w sets) h)) v ev
 
     module _ (h : t ≡ Side.List) where
       pub list-chosen : ListChosen (p .list) ws w n s
@@ -174,18 +171,8 @@ module _ (p : Pair) (ws vs : List ℕ) (w : Which) (n : Size) (mode : Mode) (x :
   pub find-checked : (s : Spot) (e : Entry) → v ≡ PairCheck.Good s e → Checked p ws vs (findAim p w n) s e
   find-checked s e f = saw-checked p ws vs (findAim p w n) v aimed-at s e f
 
-  abbrev Hands : Found → Type 0
-  Hands r =
-      (r ≡ foundOf (found p ws vs w (n .0) mode))
-      × (ws ≡ found p ws vs w (n .0) mode .words .list)
-      × (vs ≡ found p ws vs w (n .0) mode .words .block)
+  pub find-5 : v ≡ PairCheck.BadSetUp → (r : Found) → r ≡ foundNone p 5 → Hands foundOf (found p ws vs w (n .0) mode) r ws vs
+  find-5 = answers-5 p ws vs (findAim p w n) v aimed-at foundOf (find w (n .0) mode) (found p ws vs w (n .0) mode) (is-found p ws vs w (n .0) mode)
 
-  pub find-5 : v ≡ PairCheck.BadSetUp → (r : Found) → r ≡ foundNone p 5 → Hands r
-  find-5 f r er =
-      refuse-find p ws vs (found p ws vs w (n .0) mode) 5
-      (is-found p ws vs w (n .0) mode ∙ answers-5 p ws vs (findAim p w n) v aimed-at (find w (n .0) mode) f) r er ws vs refl refl
-
-  pub find-6 : v ≡ PairCheck.Damaged → (r : Found) → r ≡ foundNone p 6 → Hands r
-  find-6 f r er =
-      refuse-find p ws vs (found p ws vs w (n .0) mode) 6
-      (is-found p ws vs w (n .0) mode ∙ answers-6 p ws vs (findAim p w n) v aimed-at (find w (n .0) mode) f) r er ws vs refl refl
+  pub find-6 : v ≡ PairCheck.Damaged → (r : Found) → r ≡ foundNone p 6 → Hands foundOf (found p ws vs w (n .0) mode) r ws vs
+  find-6 = answers-6 p ws vs (findAim p w n) v aimed-at foundOf (find w (n .0) mode) (found p ws vs w (n .0) mode) (is-found p ws vs w (n .0) mode)

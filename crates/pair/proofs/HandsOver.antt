@@ -6,7 +6,7 @@ use mathlib.Core.Logic.{inr}
 use mathlib.Core.Path.{_≡_, refl, sym, ap, subst, _∙_}
 use native.Mathlib.Omega.{arith}
 use lib.ListN.{length}
-use borrow.Author.Tests.{ne-eqb}
+use borrow.Author.Tests.{ne-eqb, le-leb}
 use Rattle.units.specs.Aims.{isNone}
 use Rattle.units.specs.Words.{rangeOf}
 use Rattle.units.specs.declared.Range as units
@@ -22,13 +22,15 @@ use Rattle.model.proofs.Counting.{cut-end}
 use Rattle.model.proofs.Parts.{Stands, mem-stands}
 use Rattle.model.proofs.Requests.{range-rules, rules-range}
 use Rattle.model.proofs.Surrounding.{Held, held}
+use Rattle.list_words.specs.Laying.{lay}
 use Rattle.list_words.specs.declared.Spot.{Spot}
 use Rattle.list_land.specs.Layout as list
 use Rattle.list_land.specs.Parts.{reachLimit}
-use Rattle.list_land.specs.declared.ListLand.{ListLand}
-use Rattle.block_words.specs.Words.{capacity}
+use Rattle.block_words.specs.Words.{capacity, fill}
 use Rattle.block_words.specs.declared.Entry.{Entry}
+use Rattle.block_edits.specs.Edits.{cutOf}
 use Rattle.block_edits.specs.Places.{Holding}
+use Rattle.block_edits.specs.declared.Edited.{Edited}
 use Rattle.block_edits.proofs.Entering.{Numbered, kept-numbered}
 use Rattle.block_land.specs.Layout as block
 use Rattle.block_land.specs.declared.BlockLand.{BlockLand}
@@ -40,7 +42,9 @@ use Rattle.pair_model.specs.PairLayouts.{PairFine}
 use Rattle.pair_model.proofs.HandingOver.{upper}
 use Rattle.pair_model.proofs.InsertTurns.{no-overlap}
 use Rattle.pair_model.proofs.PairLaws.{meet-disjoint}
-use Rattle.pair.specs.Deletes.{listMore, tableLess, listHandle, listWords, blockHandle, blockWords, Giving, Lowering, Asked, Spilling}
+use Rattle.pair.specs.Deletes.{Asked, Spilling}
+use Rattle.pair.specs.Editing.{listMore, tableLess, given, Giving, Lowering}
+use Rattle.pair.specs.declared.edits.Given.{Given}
 use Rattle.pair.specs.declared.Pair.{Pair}
 use Rattle.pair.proofs.Calling.{apart, list-sought, flush-checked}
 use Rattle.pair.proofs.Checking.{same-up}
@@ -169,16 +173,26 @@ module _ (p : Pair) (ws vs : List ℕ) (y : units.Range) (s : Spot) (e : Entry) 
             high = omega arith;
           }
 
+      cuts : cutOf vs (p .block .ranges) (rangeOf b (q .limit)) ≡ Edited.Done (struct (holder b (q .limit) qs)) (length (delete-from b (q .limit) qs))
+      unfolding cutOf
+      cuts = rw (holds-rest, le-leb (length (delete-from b (q .limit) qs)) (capacity vs) room)
+
       pub over-lowering : Lowering (p .block) vs (e .number) m
       over-lowering =
           subst (λ (x : units.Range). Lowering (p .block) vs (e .number) x) (sym is-above)
-          (record { readable = readable p ws vs y s e asked; at-pair = at-pair; held = holds-rest; room = room })
+          (record {
+            readable = readable p ws vs y s e asked;
+            at-pair = at-pair;
+            old = struct (holder b (q .limit) qs);
+            count = length (delete-from b (q .limit) qs);
+            cuts = cuts;
+          })
 
-      pub over-0 : (h : ListLand) (ws' : List ℕ) → (h ≡ listHandle (p .list) (listMore (p .list) ws u)) × (ws' ≡ listWords (p .list) (listMore (p .list) ws u) ws) →
-          (n : BlockLand) (vs' : List ℕ) → (n ≡ blockHandle (p .block) (tableLess (p .block) vs m)) × (vs' ≡ blockWords (tableLess (p .block) vs m) vs) →
-          Deletes p ws vs y (record { pair = record { list = h; block = n }; answer = 0; range = e .here }) ws' vs'
+      pub over-0 : (h : Given) (ws' : List ℕ) → (h ≡ given (p .list) ws u) × (ws' ≡ lay (list.base (p .list)) (listMore (p .list) ws u) ws) →
+          (n : BlockLand) (vs' : List ℕ) → (n ≡ block.closed (p .block) (tableLess (p .block) vs m)) × (vs' ≡ fill (tableLess (p .block) vs m) vs) →
+          Deletes p ws vs y (record { pair = record { list = h .list; block = n }; answer = 0; range = e .here }) ws' vs'
       over-0 h ws' f n vs' g =
-          let c : (h ≡ list.closed (p .list) (insert-in l (q .limit) rs)) × (ws' ≡ listWords (p .list) (insert-in l (q .limit) rs) ws) = rw is-upper at f in
-          let d : (n ≡ block.closed (p .block) (delete-from b (q .limit) qs)) × (vs' ≡ blockWords (delete-from b (q .limit) qs) vs) = rw is-above at g in
+          let c : (h ≡ given (p .list) ws (rangeOf l (q .limit))) × (ws' ≡ lay (list.base (p .list)) (insert-in l (q .limit) rs) ws) = rw is-upper at f in
+          let d : (n ≡ block.closed (p .block) (delete-from b (q .limit) qs)) × (vs' ≡ fill (delete-from b (q .limit) qs) vs) = rw is-above at g in
           does p ws vs y s e asked q (insert-in l (q .limit) rs) (delete-from b (q .limit) qs) (rw (asked .good, k .asked .unlisted, k .held, k .full))
-          (e .here) q-here h (c .0) n (d .0) ws' vs' (c .1) (d .1)
+          (e .here) q-here (h .list) (ap (λ (x : Given). x .list) (c .0)) n (d .0) ws' vs' (c .1) (d .1)

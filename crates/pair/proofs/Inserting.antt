@@ -1,15 +1,10 @@
--- The ways out of an insert in a pair that was checked: 4, 1, and the range put in after the flush. Assumes nothing.
+-- The ways out of an insert in a pair that was checked: 1, and the range put in after the flush. Assumes nothing.
 use Prim.Native.Nat.{ℕ, _<_}
 use mathlib.Core.Bool.{Bool, true, false}
-use mathlib.Core.List.{List, [], _∷_}
+use mathlib.Core.List.{List}
 use mathlib.Core.Path.{_≡_, refl, sym, _∙_}
-use types.Run.{OneOf}
-use denote.Enum.Declared.{tagOf}
-use Rattle.units.specs.Rules.{rangeCheck}
 use Rattle.units.specs.declared.Range as units
 use Rattle.units.specs.declared.rules.Arena as units-arena
-use Rattle.units.specs.declared.rules.RangeCheck.{RangeCheck}
-use Rattle.units.proofs.rules.RangeCheck as range-type
 use Rattle.model.specs.Marks.{Range}
 use Rattle.model.specs.Lists.{overlaps}
 use Rattle.list_words.specs.declared.Chain.{Chain}
@@ -23,17 +18,14 @@ use Rattle.block_words.specs.declared.Entry.{Entry}
 use Rattle.block_edits.specs.Edits.{Sorted}
 use Rattle.block_edits.specs.Places as places
 use Rattle.block_land.specs.Layout as block
-use Rattle.block_land.specs.Parts as block-parts
 use Rattle.block_land.proofs.EditAnswers as edits
 use Rattle.pair_model.specs.Pairs.{insert}
 use Rattle.pair.specs.Calls.{called, changed, inserted, refusedBy}
 use Rattle.pair.specs.Inserts.{takenIn, Wanted, Bare}
-use Rattle.pair.specs.Parts.{checkOf, Checked}
 use Rattle.pair.specs.declared.Changed.{Changed}
 use Rattle.pair.specs.declared.Pair.{Pair}
-use Rattle.pair.specs.declared.PairCheck.{PairCheck}
-use Rattle.pair.proofs.Asking.{asked-4, readable, order, list-good}
-use Rattle.pair.proofs.Calling.{saw-checked, answers-5, answers-6, list-sought, block-aimed, refuses, refuse-change}
+use Rattle.pair.proofs.Asking.{readable, order, list-good}
+use Rattle.pair.proofs.Calling.{Hands, list-sought, block-aimed, refuses, refuse}
 
 pub is-insert : (p : Pair) (ws vs : List ℕ) (y : units.Range) → inserted p ws vs y ≡ called (insert (y .base .0) (y .limit .0)) p ws vs
 unfolding inserted
@@ -41,7 +33,7 @@ is-insert p ws vs y = refl
 
 -- what an insert hands back
 abbrev pub Inserts : Pair → List ℕ → List ℕ → units.Range → Changed → List ℕ → List ℕ → Type 0
-Inserts p ws vs y w ws' vs' = (w ≡ changed (inserted p ws vs y)) × (ws' ≡ inserted p ws vs y .words .list) × (vs' ≡ inserted p ws vs y .words .block)
+Inserts p ws vs y = Hands changed (inserted p ws vs y)
 
 module _ (p : Pair) (ws vs : List ℕ) (y : units.Range) (s : Spot) where
   abbrev b : ℕ
@@ -55,14 +47,6 @@ module _ (p : Pair) (ws vs : List ℕ) (y : units.Range) (s : Spot) where
 
   abbrev qs : List Range
   qs = block.tableOf (p .block) vs
-
-  -- THE RANGE RULE
-  module _ (e : Entry) (k : Checked p ws vs (reachBase y) s e) (a : units-arena.Arena) (ea : a ≡ block-parts.arenaIn (p .block)) (a' : units-arena.Arena) (ea' : a' ≡ a)
-      (r : RangeCheck) (er : r ≡ rangeCheck (a' .base .0) (a' .limit .0) (a' .align .0) (y .base .0) (y .limit .0)) where
-    pub insert-4 : OneOf (1 ∷ 2 ∷ 3 ∷ 4 ∷ []) (tagOf range-type.the-type r) → (w : Changed) → w ≡ refusedBy p 4 → Inserts p ws vs y w ws vs
-    insert-4 t w ew =
-        refuse-change p ws vs (inserted p ws vs y) 4
-        (is-insert p ws vs y ∙ asked-4 p ws vs y s e k a ea a' ea' r er (insert b l) (λ g. rw g) t) w ew ws vs refl refl
 
   -- WHETHER A BYTE IS FREE
   module _ (e : Entry) (k : Wanted p ws vs y s e) where
@@ -88,25 +72,10 @@ module _ (p : Pair) (ws vs : List ℕ) (y : units.Range) (s : Spot) where
     module _ (t : Bool) (et : t ≡ takenIn p ws vs y) where
       pub taken-1 : t ≡ true → (w : Changed) → w ≡ refusedBy p 1 → Inserts p ws vs y w ws vs
       taken-1 f w ew =
-          refuse-change p ws vs (inserted p ws vs y) 1
-          (is-insert p ws vs y ∙ refuses p ws vs (reachBase y) s e (k .checked) (insert b l) 1 refl (rw (k .good, sym et ∙ f))) w ew ws vs refl refl
+          refuse changed p ws vs 1 (inserted p ws vs y)
+          (is-insert p ws vs y ∙ refuses p ws vs (reachBase y) s e (k .checked) (insert b l) 1 refl (rw (k .good, sym et ∙ f))) w ew
 
       pub not-taken : t ≡ false → Bare p ws vs y s
       not-taken f = record { entry = e; wanted = k; none = sym et ∙ f }
 
 pub ruleset inserts = (taken-list, taken-table)
-
--- THE CHECKS
-module _ (p : Pair) (ws vs : List ℕ) (y : units.Range) (v : PairCheck) (ev : v ≡ checkOf p ws vs (reachBase y)) where
-  pub insert-checked : (s : Spot) (e : Entry) → v ≡ PairCheck.Good s e → Checked p ws vs (reachBase y) s e
-  insert-checked s e f = saw-checked p ws vs (reachBase y) v ev s e f
-
-  pub insert-5 : v ≡ PairCheck.BadSetUp → (w : Changed) → w ≡ refusedBy p 5 → Inserts p ws vs y w ws vs
-  insert-5 f w ew =
-      refuse-change p ws vs (inserted p ws vs y) 5
-      (is-insert p ws vs y ∙ answers-5 p ws vs (reachBase y) v ev (insert (y .base .0) (y .limit .0)) f) w ew ws vs refl refl
-
-  pub insert-6 : v ≡ PairCheck.Damaged → (w : Changed) → w ≡ refusedBy p 6 → Inserts p ws vs y w ws vs
-  insert-6 f w ew =
-      refuse-change p ws vs (inserted p ws vs y) 6
-      (is-insert p ws vs y ∙ answers-6 p ws vs (reachBase y) v ev (insert (y .base .0) (y .limit .0)) f) w ew ws vs refl refl

@@ -7,19 +7,20 @@ use lib.Dec.{leb}
 use lib.ListN.{length}
 use Rattle.units.specs.declared.Range as units
 use Rattle.model.specs.Marks.{Range, struct}
+use Rattle.model.specs.Calls.{good-range}
 use Rattle.model.specs.Lists.{overlaps, holder, insert-in}
 use Rattle.list_words.specs.Laying.{lay}
 use Rattle.list_words.specs.declared.Spot.{Spot}
 use Rattle.list_land.specs.Layout as list
 use Rattle.list_land.specs.Parts as list-parts
 use Rattle.list_land.specs.Parts.{reachBase}
-use Rattle.list_edits.specs.Chains.{mayAsk}
 use Rattle.block_words.specs.Words.{capacity, fill}
 use Rattle.block_words.specs.declared.Entry.{Entry}
 use Rattle.block_land.specs.Layout as block
 use Rattle.flush.specs.Flush.{flushed}
 use Rattle.pair_model.specs.Pairs.{both, any-free}
 use Rattle.pair_words.specs.Lefts.{Left}
+use Rattle.pair.specs.Editing.{listMore, given}
 use Rattle.pair.specs.Parts.{Ranged}
 use Rattle.pair.specs.declared.Changed.{Changed}
 use Rattle.pair.specs.declared.Pair.{Pair}
@@ -29,25 +30,22 @@ abbrev pub flushedPair : Pair → List ℕ → List ℕ → Pair
 flushedPair p ws vs = record { list = flushed (p .list) ws (p .block) vs .result .list; block = flushed (p .list) ws (p .block) vs .result .block }
 
 module _ (p : Pair) (ws : List ℕ) (y : units.Range) where
-  -- The ranges of the list with the range in it.
-  abbrev pub listed : List Range
-  listed = insert-in (y .base .0) (y .limit .0) (list.walkOf (p .list) ws .met)
-
+  -- The list with the range in it, and its words.
   abbrev pub enterList : Changed
   enterList = record {
-    pair = record { list = list.closed (p .list) listed; block = p .block };
+    pair = record { list = given (p .list) ws y .list; block = p .block };
     answer = 0;
-    range = struct (holder (y .base .0) (y .limit .0) listed);
+    range = given (p .list) ws y .range;
   }
 
   abbrev pub enterWords : List ℕ
-  enterWords = lay (list.base (p .list)) listed ws
+  enterWords = lay (list.base (p .list)) (listMore (p .list) ws y) ws
 
   -- A sound list that has no byte of the range, and a spot of a list of which it is the rest.
   pub record Roomless (s : Spot) : Type 0 where
     pub good : list.setUp (p .list) ws ≡ true
     pub whole : list.sound (p .list) ws ≡ true
-    pub asked : mayAsk (list-parts.arenaIn (p .list)) y ≡ true
+    pub asked : good-range (list.arenaOf (p .list)) (y .base .0) (y .limit .0) ≡ true
     pub clear : overlaps (y .base .0) (y .limit .0) (list.walkOf (p .list) ws .met) ≡ false
     pub left : Left (list-parts.arenaIn (p .list)) ws (p .list .head) (y .base) s
 

@@ -1,6 +1,7 @@
 pub mod Calls
 pub mod Demand
 pub mod Parts
+pub mod Editing
 pub mod Inserts
 pub mod Deletes
 pub mod Finding

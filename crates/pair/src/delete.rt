@@ -3,11 +3,12 @@
 use crate::Changed;
 use crate::Pair;
 use crate::PairCheck;
+use crate::edits::give;
+use crate::edits::lower;
+use crate::edits::take;
 use crate::refused;
 use block_edits::Edited;
-use block_land::BlockLand;
 use block_words::Entry;
-use list_land::ListLand;
 use list_words::Spot;
 use units::Aim;
 use units::Range;
@@ -16,7 +17,7 @@ ghost use mathlib.Core.Path.{_≡_};
 ghost use Rattle.pair.specs.Calls.{changed, deleted};
 ghost use Rattle.pair.specs.Parts.{Checked};
 ghost use Rattle.list_land.specs.Parts.{reachLimit};
-ghost use Rattle.pair.specs.Deletes.{begins, listLess, listMore, tableLess, listHandle, listWords, blockHandle, blockWords, Listed, Giving, Lowering, Asked, Unlisted, Spilling, Nowhere};
+ghost use Rattle.pair.specs.Deletes.{begins, Asked, Unlisted, Spilling, Nowhere};
 
 // Whether there is a range, and it begins at or below the request.
 fn begins_below(range: Range, here: Range) -> bool
@@ -26,45 +27,6 @@ fn begins_below(range: Range, here: Range) -> bool
         return false;
     }
     here.base.le(range.base)
-}
-
-// Takes a range out of the range of a sound list that holds it.
-fn take_listed(list: ListLand, words: &mut [u64], range: Range, spot: Spot) -> ListLand
-    requires { ⌜ Listed list (now words) range spot ⌝ }
-    ensures { λ r. ⌜ (r ≡ listHandle list (listLess list (now (words .entry)) range)) × (now (words .exit) ≡ listWords list (listLess list (now (words .entry)) range) (now (words .entry))) ⌝ }
-{
-    let chain = list_edits::cut_at(list.arena(), words, list.chain(), spot, range);
-    list.close(chain.head, chain.ranges, chain.bytes)
-}
-
-// Puts a range into a sound list that has no byte of it.
-fn give(list: ListLand, words: &mut [u64], range: Range, spot: Spot) -> ListLand
-    requires { ⌜ Giving list (now words) range spot ⌝ }
-    ensures { λ r. ⌜ (r ≡ listHandle list (listMore list (now (words .entry)) range)) × (now (words .exit) ≡ listWords list (listMore list (now (words .entry)) range) (now (words .entry))) ⌝ }
-{
-    let list_edits::Edited::Done(c, _) = list_edits::put_at(
-        list.arena(),
-        words,
-        list.chain(),
-        range,
-        spot,
-    ) else {
-        return list;
-    };
-    let chain = c;
-    list.close(chain.head, chain.ranges, chain.bytes)
-}
-
-// Takes a range out of pair i of a sound table, where there is room for what is left.
-fn lower(block: BlockLand, nodes: &mut [u64], i: usize, range: Range) -> BlockLand
-    requires { ⌜ Lowering block (now nodes) i range ⌝ }
-    ensures { λ r. ⌜ (r ≡ blockHandle block (tableLess block (now (nodes .entry)) range)) × (now (nodes .exit) ≡ blockWords (tableLess block (now (nodes .entry)) range) (now (nodes .entry))) ⌝ }
-{
-    let Edited::Done(_, count) = block_edits::cut::cut_at(nodes, block.ranges, i, range) else {
-        return block;
-    };
-    let bytes = block.bytes.minus(range.size());
-    block.close(count, bytes)
 }
 
 impl Pair {
@@ -98,7 +60,8 @@ impl Pair {
         let here = entry.here;
         let upper = Range::new(range.limit, here.limit);
         let above = Range::new(range.base, here.limit);
-        let list = give(self.list, words, upper, spot);
+        let given = give(self.list, words, upper, spot);
+        let list = given.list;
         let block = lower(self.block, nodes, entry.number, above);
         let pair = Pair { list, block };
         Changed {
@@ -153,7 +116,7 @@ impl Pair {
         let here = spot.here;
         if begins_below(range, here) {
             let block = self.block;
-            let list = take_listed(self.list, words, range, spot);
+            let list = take(self.list, words, range, spot);
             let pair = Pair { list, block };
             return Changed {
                 pair,

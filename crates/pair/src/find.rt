@@ -2,8 +2,9 @@
 use crate::Found;
 use crate::Pair;
 use crate::PairCheck;
+use crate::edits::lower;
+use crate::edits::take;
 use crate::none_found;
-use block_edits::Edited;
 use block_words::Entry;
 use list_words::Spot;
 use units::Aim;
@@ -86,9 +87,8 @@ impl Pair {
     {
         let list = self.list;
         let block = self.block;
-        let arena = list.arena();
         let here = spot.here;
-        let part = finds::part(which, mode, arena.find_size(size), here);
+        let part = finds::part(which, mode, list.arena().find_size(size), here);
         if let Mode::None = mode {
             return Found {
                 pair: self,
@@ -97,8 +97,7 @@ impl Pair {
                 old: here,
             };
         }
-        let chain = list_edits::cut_at(arena, words, list.chain(), spot, part);
-        let list = list.close(chain.head, chain.ranges, chain.bytes);
+        let list = take(list, words, part, spot);
         Found {
             pair: Pair { list, block },
             answer: 0,
@@ -131,16 +130,7 @@ impl Pair {
                 old: here,
             };
         }
-        let Edited::Done(_, count) = block_edits::cut::cut_at(
-            nodes,
-            block.ranges,
-            entry.number,
-            part,
-        ) else {
-            return none_found(self, 2);
-        };
-        let bytes = block.bytes.minus(part.size());
-        let block = block.close(count, bytes);
+        let block = lower(block, nodes, entry.number, part);
         Found {
             pair: Pair { list, block },
             answer: 0,

@@ -2,6 +2,7 @@
 use crate::Changed;
 use crate::Pair;
 use crate::PairCheck;
+use crate::edits::give;
 use crate::refused;
 use block_words::Entry;
 use list_words::Spot;
@@ -41,24 +42,12 @@ impl Pair {
     {
         let list = self.list;
         let block = self.block;
-        let arena = list.arena();
-        let chain = list.chain();
-        let place = pair_words::spot_left(arena, words, list.head, range.base, spot);
-        let list_edits::Edited::Done(c, fresh) = list_edits::put_at(
-            arena,
-            words,
-            chain,
-            range,
-            place,
-        ) else {
-            return refused(self, 1);
-        };
-        let next = c;
+        let place = pair_words::spot_left(list.arena(), words, list.head, range.base, spot);
+        let given = give(list, words, range, place);
+        let list = given.list;
+        let fresh = given.range;
         Changed {
-            pair: Pair {
-                list: list.close(next.head, next.ranges, next.bytes),
-                block,
-            },
+            pair: Pair { list, block },
             answer: 0,
             range: fresh,
         }

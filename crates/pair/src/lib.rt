@@ -4,6 +4,7 @@
 // handles that it was given, and changes no word of either memory. Every function here is proved, and the crate assumes
 // nothing of its own.
 mod delete;
+mod edits;
 mod find;
 mod insert;
 

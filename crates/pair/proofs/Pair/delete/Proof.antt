@@ -1,6 +1,7 @@
 -- `Pair::delete` meets its contract: 5, 6, and then the places. Assumes nothing.
-use Rattle.pair.proofs.Calling.{saw-checked}
-use Rattle.pair.proofs.DeleteAnswers.{delete-5, delete-6}
+use Rattle.pair.specs.Calls.{changed}
+use Rattle.pair.proofs.Calling.{saw-checked, answers-5, answers-6}
+use Rattle.pair.proofs.DeleteAnswers.{is-delete}
 use borrow.Author.Needs.{needs}
 use Rattle.pair.proofs.Pair.delete.Statement.{statement}
 use Rattle.pair.proofs.Pair.delete.Tie as tie
@@ -35,7 +36,7 @@ same-length-2 c = search needs
 
 returns : tie.Need-returns
 returns c =
-    delete-5 _ _ _ (c .before .before .before .before .before .before .before .before .before .args .range) _ (c .before .before .before .check .ensures) (c .before .enum-told .given .1) _ (c .refused .ensures)
+    answers-5 _ _ _ _ _ (c .before .before .before .check .ensures) changed _ _ (is-delete _ _ _ (c .before .before .before .before .before .before .before .before .before .args .range)) (c .before .enum-told .given .1) _ (c .refused .ensures)
 
 same-length-3 : tie.Need-same-length-3
 same-length-3 c = search needs
@@ -45,7 +46,7 @@ same-length-4 c = search needs
 
 returns-2 : tie.Need-returns-2
 returns-2 c =
-    delete-6 _ _ _ (c .before .before .before .before .before .before .before .before .before .args .range) _ (c .before .before .before .check .ensures) (c .before .enum-told2 .given .1) _ (c .refused2 .ensures)
+    answers-6 _ _ _ _ _ (c .before .before .before .check .ensures) changed _ _ (is-delete _ _ _ (c .before .before .before .before .before .before .before .before .before .args .range)) (c .before .enum-told2 .given .1) _ (c .refused2 .ensures)
 
 same-length-5 : tie.Need-same-length-5
 same-length-5 c = search needs

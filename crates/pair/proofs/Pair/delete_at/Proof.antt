@@ -1,6 +1,7 @@
 -- `Pair::delete_at` meets its contract: the range rule. Assumes nothing.
-use Rattle.pair.proofs.Asking.{asked-align, asked-positive, asked-good}
-use Rattle.pair.proofs.DeleteAnswers.{delete-4}
+use Rattle.pair.specs.Calls.{changed}
+use Rattle.pair.proofs.Asking.{asked-align, asked-positive, asked-4, asked-good}
+use Rattle.pair.proofs.DeleteAnswers.{is-delete}
 use borrow.Author.Needs.{needs}
 use Rattle.pair.proofs.Pair.delete_at.Statement.{statement}
 use Rattle.pair.proofs.Pair.delete_at.Tie as tie
@@ -24,7 +25,7 @@ refused-requires c κs = search needs
 
 returns : tie.Need-returns
 returns c =
-    delete-4 _ _ _ (c .before .before .before .before .before .before .before .args .range) _ _ (c .before .before .before .before .before .before .before .pre) _ (c .before .before .before .before .arena .ensures) _ (c .before .before .before .divided .ensures) _ (c .before .before .check-range .ensures) (c .before .match .keys2) _ (c .refused .ensures)
+    asked-4 _ _ _ (c .before .before .before .before .before .before .before .args .range) _ _ (c .before .before .before .before .before .before .before .pre) _ (c .before .before .before .before .arena .ensures) _ (c .before .before .before .divided .ensures) _ (c .before .before .check-range .ensures) changed _ _ (is-delete _ _ _ (c .before .before .before .before .before .before .before .args .range)) (λ g. rw g) (c .before .match .keys2) _ (c .refused .ensures)
 
 delete-good-requires : tie.Need-delete-good-requires
 delete-good-requires c κs =

@@ -1,5 +1,5 @@
 -- `Pair::delete_good` meets its contract: the list first, then the table. Assumes nothing.
-use Rattle.pair.proofs.DeleteAnswers.{in-list-at, in-list-0, not-in-list}
+use Rattle.pair.proofs.DeleteAnswers.{in-list-takes, in-list-0, not-in-list}
 use borrow.Author.Needs.{needs}
 use Rattle.pair.proofs.Pair.delete_good.Statement.{statement}
 use Rattle.pair.proofs.Pair.delete_good.Tie as tie
@@ -7,16 +7,16 @@ use Rattle.pair.proofs.Pair.delete_good.Tie as tie
 begins-below-requires : tie.Need-begins-below-requires
 begins-below-requires c κs = search needs
 
-take-listed-requires : tie.Need-take-listed-requires
-take-listed-requires c κs =
-    in-list-at _ _ _ (c .before .before .before .before .before .before .before .args .range) _ _ (c .before .before .before .before .before .before .before .pre) _ (c .before .before .before .begins-below .ensures) (c .before .before .if1 .taken)
+take-requires : tie.Need-take-requires
+take-requires c κs =
+    in-list-takes _ _ _ (c .before .before .before .before .before .before .before .args .range) _ _ (c .before .before .before .before .before .before .before .pre) _ (c .before .before .before .begins-below .ensures) (c .before .before .if1 .taken)
 
 same-length : tie.Need-same-length
 same-length c = search needs
 
 returns : tie.Need-returns
 returns c =
-    in-list-0 _ _ _ (c .before .before .before .before .before .before .before .before .before .before .args .range) _ _ (c .before .before .before .before .before .before .before .before .before .before .pre) _ (c .before .before .before .before .before .before .begins-below .ensures) (c .before .before .before .before .before .if1 .taken) _ _ (c .before .before .take-listed .ensures)
+    in-list-0 _ _ _ (c .before .before .before .before .before .before .before .before .before .before .args .range) _ _ (c .before .before .before .before .before .before .before .before .before .before .pre) _ (c .before .before .before .before .before .before .begins-below .ensures) (c .before .before .before .before .before .if1 .taken) _ _ (c .before .before .take .ensures)
 
 delete-tabled-requires : tie.Need-delete-tabled-requires
 delete-tabled-requires c κs =
@@ -36,7 +36,7 @@ delete-good-spec =
     tie.close
     (tie.spec
     begins-below-requires
-    take-listed-requires
+    take-requires
     same-length
     returns
     delete-tabled-requires

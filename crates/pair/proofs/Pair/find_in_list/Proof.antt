@@ -1,5 +1,5 @@
 -- `Pair::find_in_list` meets its contract: the range as it stands, and a part of it taken out. Assumes nothing.
-use Rattle.pair.proofs.FindParts.{list-within, list-kept, list-holding, list-0}
+use Rattle.pair.proofs.FindParts.{list-within, list-kept, list-takes, list-0}
 use borrow.Author.Needs.{needs}
 use Rattle.pair.proofs.Pair.find_in_list.Statement.{statement}
 use Rattle.pair.proofs.Pair.find_in_list.Tie as tie
@@ -12,8 +12,8 @@ find-size-requires c κs = search needs
 
 part-requires : tie.Need-part-requires
 part-requires c κs =
-    let arena = c .before .before in
-    let start = arena .before .before .before .before in
+    let arena = c .before in
+    let start = arena .before .before .before .before .before in
     list-within (start .args .self) _ (start .args .which) (start .args .size) (start .args .mode) _ (start .pre) _ (arena .arena .ensures) _ (c .find-size .ensures)
 
 enum-told : tie.Need-enum-told
@@ -24,37 +24,29 @@ returns c =
     let start = c .before .before .before .before .before .before .before .before .before in
     list-kept (start .args .self) _ (start .args .which) (start .args .size) (start .args .mode) _ (start .pre) (c .enum-told .given .1)
 
-chain-requires : tie.Need-chain-requires
-chain-requires c κs = search needs
-
-cut-at-requires : tie.Need-cut-at-requires
-cut-at-requires c κs =
-    let match-keys2 = c .before .before in
+take-requires : tie.Need-take-requires
+take-requires c κs =
+    let match-keys2 = c .before in
     let part = match-keys2 .before in
     let find-size = part .before in
-    let arena = find-size .before .before in
-    let start = arena .before .before .before .before in
-    list-holding (start .args .self) _ (start .args .which) (start .args .size) (start .args .mode) _ (start .pre)
-    (match-keys2 .match .keys2) _ (arena .arena .ensures) _ (find-size .find-size .ensures) _ (part .part .ensures) _ (c .chain .ensures)
-
-close-requires : tie.Need-close-requires
-close-requires c κs = search needs
+    let arena = find-size .before in
+    let start = arena .before .before .before .before .before in
+    list-takes (start .args .self) _ (start .args .which) (start .args .size) (start .args .mode) _ (start .pre)
+    (match-keys2 .match .keys2) _ (arena .arena .ensures) _ (find-size .find-size .ensures) _ (part .part .ensures)
 
 same-length : tie.Need-same-length
 same-length c = search needs
 
 returns-2 : tie.Need-returns-2
 returns-2 c =
-    let cut-at = c .before .before .before in
-    let chain = cut-at .before in
-    let match-keys2 = chain .before .before in
+    let take = c .before .before in
+    let match-keys2 = take .before .before in
     let part = match-keys2 .before in
     let find-size = part .before in
-    let arena = find-size .before .before in
-    let start = arena .before .before .before .before in
+    let arena = find-size .before in
+    let start = arena .before .before .before .before .before in
     list-0 (start .args .self) _ (start .args .which) (start .args .size) (start .args .mode) _ (start .pre)
-    (match-keys2 .match .keys2) _ (arena .arena .ensures) _ (find-size .find-size .ensures) _ (part .part .ensures) _ (chain .chain .ensures)
-    _ _ (cut-at .cut-at .ensures) _ (c .close .ensures)
+    (match-keys2 .match .keys2) _ (arena .arena .ensures) _ (find-size .find-size .ensures) _ (part .part .ensures) _ _ (take .take .ensures)
 
 pub find-in-list-spec : {M : Type 1} → statement M
 find-in-list-spec =
@@ -65,8 +57,6 @@ find-in-list-spec =
     part-requires
     enum-told
     returns
-    chain-requires
-    cut-at-requires
-    close-requires
+    take-requires
     same-length
     returns-2)

@@ -12,11 +12,13 @@ new-requires-2 c κs = search needs
 
 give-requires : tie.Need-give-requires
 give-requires c κs =
-    over-giving _ _ _ (c .before .before .before .before .before .before .args .range) _ _ (c .before .before .before .before .before .before .pre) _ (c .before .before .new .ensures)
+    let start = c .before .before .before .before .before .before in
+    over-giving _ _ _ (start .args .range) _ _ (start .pre) _ (c .before .before .new .ensures)
 
 lower-requires : tie.Need-lower-requires
 lower-requires c κs =
-    over-lowering _ _ _ (c .before .before .before .before .before .before .before .before .before .before .args .range) _ _ (c .before .before .before .before .before .before .before .before .before .before .pre) _ (c .before .before .before .before .before .before .new .ensures) _ (c .before .before .before .before .before .new2 .ensures)
+    let start = c .before .before .before .before .before .before .before .before .before .before .before in
+    over-lowering _ _ _ (start .args .range) _ _ (start .pre) _ (c .before .before .before .before .before .before .before .new .ensures) _ (c .before .before .before .before .before .before .new2 .ensures)
 
 same-length : tie.Need-same-length
 same-length c = search needs
@@ -26,7 +28,8 @@ same-length-2 c = search needs
 
 returns : tie.Need-returns
 returns c =
-    over-0 _ _ _ (c .before .before .before .before .before .before .before .before .before .before .before .before .before .args .range) _ _ (c .before .before .before .before .before .before .before .before .before .before .before .before .before .pre) _ (c .before .before .before .before .before .before .before .before .before .new .ensures) _ (c .before .before .before .before .before .before .before .before .new2 .ensures) _ _ (c .before .before .before .before .before .before .give .ensures) _ _ (c .before .before .lower .ensures)
+    let start = c .before .before .before .before .before .before .before .before .before .before .before .before .before .before in
+    over-0 _ _ _ (start .args .range) _ _ (start .pre) _ (c .before .before .before .before .before .before .before .before .before .before .new .ensures) _ (c .before .before .before .before .before .before .before .before .before .new2 .ensures) _ _ (c .before .before .before .before .before .before .before .give .ensures) _ _ (c .before .before .lower .ensures)
 
 pub hand-over-spec : {M : Type 1} → statement M
 hand-over-spec =

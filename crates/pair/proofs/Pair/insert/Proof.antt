@@ -1,5 +1,7 @@
 -- `Pair::insert` meets its contract: 5, 6, and then the place. Assumes nothing.
-use Rattle.pair.proofs.Inserting.{insert-checked, insert-5, insert-6}
+use Rattle.pair.specs.Calls.{changed}
+use Rattle.pair.proofs.Calling.{saw-checked, answers-5, answers-6}
+use Rattle.pair.proofs.Inserting.{is-insert}
 use borrow.Author.Needs.{needs}
 use Rattle.pair.proofs.Pair.insert.Statement.{statement}
 use Rattle.pair.proofs.Pair.insert.Tie as tie
@@ -24,7 +26,7 @@ enum-known-s c = search needs
 
 insert-at-requires : tie.Need-insert-at-requires
 insert-at-requires c κs =
-    insert-checked _ _ _ (c .before .before .before .before .before .before .before .before .before .before .before .args .range) _ (c .before .before .before .before .before .check .ensures) _ _ (c .before .before .before .s .given .1)
+    saw-checked _ _ _ _ _ (c .before .before .before .before .before .check .ensures) _ _ (c .before .before .before .s .given .1)
 
 same-length : tie.Need-same-length
 same-length c = search needs
@@ -34,7 +36,7 @@ same-length-2 c = search needs
 
 returns : tie.Need-returns
 returns c =
-    insert-5 _ _ _ (c .before .before .before .before .before .before .before .before .before .args .range) _ (c .before .before .before .check .ensures) (c .before .enum-told .given .1) _ (c .refused .ensures)
+    answers-5 _ _ _ _ _ (c .before .before .before .check .ensures) changed _ _ (is-insert _ _ _ (c .before .before .before .before .before .before .before .before .before .args .range)) (c .before .enum-told .given .1) _ (c .refused .ensures)
 
 same-length-3 : tie.Need-same-length-3
 same-length-3 c = search needs
@@ -44,7 +46,7 @@ same-length-4 c = search needs
 
 returns-2 : tie.Need-returns-2
 returns-2 c =
-    insert-6 _ _ _ (c .before .before .before .before .before .before .before .before .before .args .range) _ (c .before .before .before .check .ensures) (c .before .enum-told2 .given .1) _ (c .refused2 .ensures)
+    answers-6 _ _ _ _ _ (c .before .before .before .check .ensures) changed _ _ (is-insert _ _ _ (c .before .before .before .before .before .before .before .before .before .args .range)) (c .before .enum-told2 .given .1) _ (c .refused2 .ensures)
 
 same-length-5 : tie.Need-same-length-5
 same-length-5 c = search needs

@@ -1,6 +1,7 @@
 -- `Pair::insert_at` meets its contract: 4, 1, and the range put in. Assumes nothing.
-use Rattle.pair.proofs.Asking.{asked-align, asked-positive, asked-good}
-use Rattle.pair.proofs.Inserting.{insert-4, taken-1, not-taken}
+use Rattle.pair.specs.Calls.{changed}
+use Rattle.pair.proofs.Asking.{asked-align, asked-positive, asked-4, asked-good}
+use Rattle.pair.proofs.Inserting.{is-insert, taken-1, not-taken}
 use borrow.Author.Needs.{needs}
 use Rattle.pair.proofs.Pair.insert_at.Statement.{statement}
 use Rattle.pair.proofs.Pair.insert_at.Tie as tie
@@ -24,7 +25,7 @@ refused-requires c κs = search needs
 
 returns : tie.Need-returns
 returns c =
-    insert-4 _ _ _ (c .before .before .before .before .before .before .before .args .range) _ _ (c .before .before .before .before .before .before .before .pre) _ (c .before .before .before .before .arena .ensures) _ (c .before .before .before .divided .ensures) _ (c .before .before .check-range .ensures) (c .before .match .keys2) _ (c .refused .ensures)
+    asked-4 _ _ _ (c .before .before .before .before .before .before .before .args .range) _ _ (c .before .before .before .before .before .before .before .pre) _ (c .before .before .before .before .arena .ensures) _ (c .before .before .before .divided .ensures) _ (c .before .before .check-range .ensures) changed _ _ (is-insert _ _ _ (c .before .before .before .before .before .before .before .args .range)) (λ g. rw g) (c .before .match .keys2) _ (c .refused .ensures)
 
 taken-requires : tie.Need-taken-requires
 taken-requires c κs =

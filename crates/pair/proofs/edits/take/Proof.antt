@@ -1,8 +1,8 @@
--- `take_listed` meets its contract. Assumes nothing.
-use Rattle.pair.proofs.DeleteLists.{take-holding, take-done}
+-- `take` meets its contract. Assumes nothing.
+use Rattle.pair.proofs.LandEdits.{take-holding, take-done}
 use borrow.Author.Needs.{needs}
-use Rattle.pair.proofs.delete.take_listed.Statement.{statement}
-use Rattle.pair.proofs.delete.take_listed.Tie as tie
+use Rattle.pair.proofs.edits.take.Statement.{statement}
+use Rattle.pair.proofs.edits.take.Tie as tie
 
 arena-requires : tie.Need-arena-requires
 arena-requires c κs = search needs
@@ -24,7 +24,7 @@ returns : tie.Need-returns
 returns c =
     take-done _ _ (c .before .before .before .before .before .before .before .before .args .range) _ (c .before .before .before .before .before .before .before .before .pre) _ (c .before .before .before .before .before .before .arena .ensures) _ (c .before .before .before .before .chain .ensures) _ _ (c .before .before .before .cut-at .ensures) _ (c .close .ensures)
 
-pub take-listed-spec : {M : Type 1} → statement M
-take-listed-spec =
+pub take-spec : {M : Type 1} → statement M
+take-spec =
     tie.close
     (tie.spec arena-requires chain-requires cut-at-requires close-requires same-length returns)

@@ -1,8 +1,8 @@
 -- `lower` meets its contract. Assumes nothing.
-use Rattle.pair.proofs.DeleteTables.{lower-order, lower-room, lower-never, lower-done}
+use Rattle.pair.proofs.LandEdits.{lower-order, lower-room, lower-never, lower-done}
 use borrow.Author.Needs.{needs}
-use Rattle.pair.proofs.delete.lower.Statement.{statement}
-use Rattle.pair.proofs.delete.lower.Tie as tie
+use Rattle.pair.proofs.edits.lower.Statement.{statement}
+use Rattle.pair.proofs.edits.lower.Tie as tie
 
 cut-at-requires : tie.Need-cut-at-requires
 cut-at-requires c κs =

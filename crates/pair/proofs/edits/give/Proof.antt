@@ -1,8 +1,8 @@
 -- `give` meets its contract. Assumes nothing.
-use Rattle.pair.proofs.DeleteLists.{give-held, give-ask, give-never, give-done}
+use Rattle.pair.proofs.LandEdits.{give-asks, give-never, give-done}
 use borrow.Author.Needs.{needs}
-use Rattle.pair.proofs.delete.give.Statement.{statement}
-use Rattle.pair.proofs.delete.give.Tie as tie
+use Rattle.pair.proofs.edits.give.Statement.{statement}
+use Rattle.pair.proofs.edits.give.Tie as tie
 
 arena-requires : tie.Need-arena-requires
 arena-requires c κs = search needs
@@ -12,7 +12,7 @@ chain-requires c κs = search needs
 
 put-at-requires : tie.Need-put-at-requires
 put-at-requires c κs =
-    (give-held _ _ (c .before .before .before .before .args .range) _ (c .before .before .before .before .pre) _ (c .before .before .arena .ensures) _ (c .chain .ensures), give-ask _ _ (c .before .before .before .before .args .range) _ (c .before .before .before .before .pre) _ (c .before .before .arena .ensures) _ (c .chain .ensures))
+    give-asks _ _ (c .before .before .before .before .args .range) _ (c .before .before .before .before .pre) _ (c .before .before .arena .ensures) _ (c .chain .ensures)
 
 enum-known-c : tie.Need-enum-known-c
 enum-known-c c = search needs

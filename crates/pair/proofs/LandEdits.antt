@@ -1,0 +1,100 @@
+-- The edits of one land of a pair: the ways out of `give`, `take` and `lower`. Assumes nothing.
+use Prim.Native.Nat.{ℕ, _+_, _-_, _≤_}
+use mathlib.Core.Bool.{true}
+use mathlib.Core.List.{List, [], _∷_}
+use mathlib.Core.Logic.{⊎-elim}
+use mathlib.Core.Path.{_≡_, sym, _∙_}
+use native.Mathlib.Omega.{arith}
+use types.Run.{OneOf}
+use denote.Enum.Declared.{tagOf}
+use borrow.Author.Tests.{not-false}
+use Rattle.units.specs.declared.Range as units
+use Rattle.units.specs.declared.Size.{Size}
+use Rattle.units.specs.declared.rules.Arena.{Arena}
+use Rattle.units.proofs.Tests.{clash}
+use Rattle.model.specs.Marks.{Range}
+use Rattle.model.specs.Lists.{total, holds}
+use Rattle.model.proofs.Totals.{total-delete}
+use Rattle.list_words.specs.Laying.{lay}
+use Rattle.list_words.specs.declared.Chain.{Chain}
+use Rattle.list_words.specs.declared.Spot.{Spot}
+use Rattle.list_edits.specs.Chains as chains
+use Rattle.list_edits.specs.Chains.{metOf, Held, Holding, mayAsk, putOf, putWords, cutChain}
+use Rattle.list_edits.specs.declared.Edited as list-edited
+use Rattle.list_edits.proofs.Answered.{answer-refused, answer-done, words-done}
+use Rattle.list_land.specs.Layout as list
+use Rattle.list_land.specs.Parts.{arenaIn, chainIn, closedWith, reachBase}
+use Rattle.list_land.specs.declared.ListLand.{ListLand}
+use Rattle.list_land.proofs.Requests as list-requests
+use Rattle.block_words.specs.Words.{fill}
+use Rattle.block_edits.specs.Edits.{cutOf, cutWords}
+use Rattle.block_edits.specs.declared.Edited.{Edited}
+use Rattle.block_edits.proofs.Answered.{cut-done, cut-words}
+use Rattle.block_edits.proofs.Edited as edited-type
+use Rattle.block_land.specs.Layout as block
+use Rattle.block_land.specs.Parts as block-parts
+use Rattle.block_land.specs.declared.BlockLand.{BlockLand}
+use Rattle.block_land.proofs.EditAnswers.{closes, whole}
+use Rattle.pair.specs.Editing.{listLess, listMore, tableLess, given, Giving, Taking, Lowering}
+
+module _ (h : ListLand) (ws : List ℕ) (y : units.Range) (s : Spot) where
+  abbrev met : List Range
+  met = list.walkOf h ws .met
+
+  -- A RANGE PUT INTO THE LIST
+  module _ (k : Giving h ws y s) (a : Arena) (ea : a ≡ arenaIn h) (c : Chain) (ec : c ≡ chainIn h) where
+    pub give-asks : Held a ws c (reachBase y) s × (mayAsk a y ≡ true)
+    give-asks = (list-requests.sought-held h ws (reachBase y) s (k .sought) a ea c ec, rw ea (k .good))
+
+    module _ (v : list-edited.Edited) (ws' : List ℕ) (e : (v ≡ putOf (metOf a ws c) y) × (ws' ≡ putWords (metOf a ws c) y (a .base .0) ws)) where
+      said : (v ≡ putOf (list.walkOf h ws .met) y) × (ws' ≡ putWords (list.walkOf h ws .met) y (list.base h) ws)
+      said = rw (ea, ec) at e
+
+      pub give-never : {P : Type 0} → v ≡ list-edited.Edited.Refused → P
+      give-never f = clash (answer-refused met y (sym (said .0) ∙ f)) (k .apart)
+
+      pub give-done : (n : Chain) (x : units.Range) → v ≡ list-edited.Edited.Done n x → (z : ListLand) → z ≡ closedWith h (n .head) (n .ranges) (n .bytes) →
+          (record { list = z; range = x } ≡ given h ws y) × (ws' ≡ lay (list.base h) (listMore h ws y) ws)
+      give-done n x f z ez =
+          let d = answer-done met y n x (sym (said .0) ∙ f) in
+          let u = list-requests.closes h (listMore h ws y) n (d .chain) z ez in
+          let r = d .range in
+          ((λ i. record { list = u i; range = r i }), said .1 ∙ words-done met y (list.base h) ws (k .apart))
+
+  -- A PART TAKEN OUT OF IT
+  module _ (k : Taking h ws y s) (a : Arena) (ea : a ≡ arenaIn h) (c : Chain) (ec : c ≡ chainIn h) where
+    pub take-holding : Holding a ws c s y
+    take-holding = rw (ea, ec) k
+
+    pub take-done : (n : Chain) (ws' : List ℕ) → (n ≡ cutChain (metOf a ws c) y) × (ws' ≡ chains.cutWords (metOf a ws c) y (a .base .0) ws) →
+        (z : ListLand) → z ≡ closedWith h (n .head) (n .ranges) (n .bytes) →
+        (z ≡ list.closed h (listLess h ws y)) × (ws' ≡ lay (list.base h) (listLess h ws y) ws)
+    take-done n ws' e z ez =
+        let q : (n ≡ cutChain met y) × (ws' ≡ chains.cutWords met y (list.base h) ws) = rw (ea, ec) at e in
+        (list-requests.closes h (listLess h ws y) n (q .0) z ez, q .1)
+
+-- A PART TAKEN OUT OF THE TABLE
+module _ (k : BlockLand) (vs : List ℕ) (i : ℕ) (y : units.Range) (w : Lowering k vs i y) where
+  pub lower-order : y .base .0 ≤ y .limit .0
+  lower-order = let o = w .at-pair .proper in omega arith
+
+  pub lower-bytes : total (tableLess k vs y) + (y .limit .0 - y .base .0) ≡ k .bytes .0
+  lower-bytes =
+      let f = whole k vs (w .readable) in
+      let held = not-false (holds (y .base .0) (y .limit .0) (block.tableOf k vs)) (cut-done vs (k .ranges) y (w .old) (w .count) (w .cuts) .good) in
+      total-delete (y .base .0) (y .limit .0) (block.base k) (block.limit k) (block.tableOf k vs) (w .at-pair .proper) (f .apart) held ∙ sym (f .bytes)
+
+  pub lower-room : (s : Size) → s .0 ≡ y .limit .0 - y .base .0 → s .0 ≤ k .bytes .0
+  lower-room s es = let u = lower-bytes in omega arith
+
+  module _ (p : Edited) (vs' : List ℕ) (e : (p ≡ cutOf vs (k .ranges) y) × (vs' ≡ cutWords vs (k .ranges) y)) where
+    pub lower-never : {P : Type 0} → OneOf (0 ∷ 1 ∷ []) (tagOf edited-type.the-type p) → P
+    lower-never o = absurd (⊎-elim (λ x. omega arith) (λ x. omega arith) (rw (e .0 ∙ w .cuts) at o))
+
+    pub lower-done : (x : units.Range) (m : ℕ) → p ≡ Edited.Done x m → (s : Size) → s .0 ≡ y .limit .0 - y .base .0 → (t : Size) → t .0 ≡ k .bytes .0 - s .0 →
+        (z : BlockLand) → z ≡ block-parts.closedWith k m t → (z ≡ block.closed k (tableLess k vs y)) × (vs' ≡ fill (tableLess k vs y) vs)
+    lower-done x m f s es t et z ez =
+        let q = sym (e .0) ∙ f in
+        let o = cut-done vs (k .ranges) y x m q in
+        let u = lower-bytes in
+        (ez ∙ closes k (tableLess k vs y) m t (o .count) (omega arith), e .1 ∙ cut-words vs (k .ranges) y (Edited.Done x m) q)

@@ -1,0 +1,53 @@
+-- Contracts of the edits of one land of a pair. Assumes nothing.
+use Prim.Native.Nat.{ℕ}
+use mathlib.Core.Bool.{true, false}
+use mathlib.Core.List.{List}
+use mathlib.Core.Path.{_≡_}
+use Rattle.units.specs.declared.Range as units
+use Rattle.model.specs.Marks.{Range, struct}
+use Rattle.model.specs.Lists.{overlaps, holder, insert-in, delete-from}
+use Rattle.model.specs.Calls.{good-range}
+use Rattle.list_words.specs.declared.Spot.{Spot}
+use Rattle.list_edits.specs.Chains as chains
+use Rattle.list_land.specs.Layout as list
+use Rattle.list_land.specs.Parts.{arenaIn, chainIn, Sought, reachBase}
+use Rattle.list_land.specs.declared.ListLand.{ListLand}
+use Rattle.block_edits.specs.Edits.{cutOf}
+use Rattle.block_edits.specs.Places.{Holding}
+use Rattle.block_edits.specs.declared.Edited.{Edited}
+use Rattle.block_land.specs.Layout as block
+use Rattle.block_land.specs.Parts.{Readable}
+use Rattle.block_land.specs.declared.BlockLand.{BlockLand}
+use Rattle.pair.specs.declared.edits.Given.{Given}
+
+-- The list's ranges without a range and with it, and the table's without it.
+abbrev pub listLess : ListLand → List ℕ → units.Range → List Range
+listLess h ws y = delete-from (y .base .0) (y .limit .0) (list.walkOf h ws .met)
+
+abbrev pub listMore : ListLand → List ℕ → units.Range → List Range
+listMore h ws y = insert-in (y .base .0) (y .limit .0) (list.walkOf h ws .met)
+
+abbrev pub tableLess : BlockLand → List ℕ → units.Range → List Range
+tableLess k vs y = delete-from (y .base .0) (y .limit .0) (block.tableOf k vs)
+
+-- The list with a range put in, and the range that then holds it.
+abbrev pub given : ListLand → List ℕ → units.Range → Given
+given h ws y = record { list = list.closed h (listMore h ws y); range = struct (holder (y .base .0) (y .limit .0) (listMore h ws y)) }
+
+-- A good range that a sound list has no byte of, and the spot of its base.
+pub record Giving (h : ListLand) (ws : List ℕ) (y : units.Range) (s : Spot) : Type 0 where
+  pub sought : Sought h ws (reachBase y) s
+  pub good : good-range (list.arenaOf h) (y .base .0) (y .limit .0) ≡ true
+  pub apart : overlaps (y .base .0) (y .limit .0) (list.walkOf h ws .met) ≡ false
+
+-- The range at a spot of a sound list holds a part.
+abbrev pub Taking : ListLand → List ℕ → units.Range → Spot → Type 0
+Taking h ws y s = chains.Holding (arenaIn h) ws (chainIn h) s y
+
+-- Pair i of a sound table holds a part, and there is room for what is left without it.
+pub record Lowering (k : BlockLand) (vs : List ℕ) (i : ℕ) (y : units.Range) : Type 0 where
+  pub readable : Readable k vs
+  pub at-pair : Holding vs (k .ranges) i y
+  pub old : units.Range
+  pub count : ℕ
+  pub cuts : cutOf vs (k .ranges) y ≡ Edited.Done old count
