@@ -1,6 +1,24 @@
-// The calls of one land for a host in C: by value, one for each but the finds of the last and the largest.
+// The calls for a host in C: by value, one for each call of a land but the finds of the last and the largest, and the flush.
 //
 // Every function here is proved to equal the call that it makes, and the crate assumes nothing of its own.
 pub mod block;
 pub mod list;
 pub mod modes;
+
+use block_land::BlockLand;
+use flush::Flushed;
+use list_land::ListLand;
+ghost use mathlib.Core.Path.{_≡_};
+ghost use Rattle.flush.specs.Flush.{flushed};
+
+#[no_mangle]
+pub extern "C" fn lg_flush(
+    list: ListLand,
+    words: &[u64],
+    block: BlockLand,
+    nodes: &mut [u64],
+) -> Flushed
+    ensures { λ r. ⌜ (r ≡ flushed list (now (words .entry)) block (now (nodes .entry)) .result) × (now (nodes .exit) ≡ flushed list (now (words .entry)) block (now (nodes .entry)) .nodes) ⌝ }
+{
+    flush::flush(list, words, block, nodes)
+}

@@ -1,12 +1,8 @@
-// The calls on two lands for a host in C: the flush and the pair. They stand in a module of their own in the archive; the
-// looks at a land have two callers there and stay functions.
+// The pair's calls for a host in C.
 //
 // Every function here is proved to equal the call that it makes, and the crate assumes nothing of its own.
-use block_land::BlockLand;
 use capi::modes;
 use capi::modes::Given;
-use flush::Flushed;
-use list_land::ListLand;
 use pair::Changed;
 use pair::Found;
 use pair::Pair;
@@ -16,23 +12,10 @@ use units::Range;
 use units::Size;
 ghost use mathlib.Core.Path.{_≡_};
 ghost use Rattle.units.specs.declared.Which.{Which};
-ghost use Rattle.flush.specs.Flush.{flushed};
 ghost use Rattle.pair.specs.Calls.{inserted, deleted, changed, foundOf, foundNone};
 ghost use Rattle.pair.specs.Parts.{setUp, sound};
 ghost use Rattle.capi.specs.Modes.{unknownMode};
 ghost use Rattle.capi_pair.specs.PairFinds.{foundBy, modeAnswer};
-
-#[no_mangle]
-pub extern "C" fn lg_flush(
-    list: ListLand,
-    words: &[u64],
-    block: BlockLand,
-    nodes: &mut [u64],
-) -> Flushed
-    ensures { λ r. ⌜ (r ≡ flushed list (now (words .entry)) block (now (nodes .entry)) .result) × (now (nodes .exit) ≡ flushed list (now (words .entry)) block (now (nodes .entry)) .nodes) ⌝ }
-{
-    flush::flush(list, words, block, nodes)
-}
 
 #[no_mangle]
 pub extern "C" fn lg_pair_insert(
