@@ -30,7 +30,7 @@ enum {
     LG_NONE = 2,    /* no range qualifies */
     LG_FULL = 3,    /* the block land would have more ranges than its capacity */
     LG_REQUEST = 4, /* the range, the size or the mode breaks the rules */
-    LG_SET_UP = 5,  /* the handle's fixed fields or the lent lengths break the arena rules */
+    LG_SET_UP = 5,  /* the handle's fixed fields or the lent lengths break the arena rules, or two lands have two arenas */
     LG_DAMAGED = 6, /* the list or table is not sound, or the lands of a pair overlap */
     LG_IN_BOTH = 7  /* delete on a pair: every byte is free, but neither land holds all of them */
 };

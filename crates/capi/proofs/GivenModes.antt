@@ -28,12 +28,20 @@ module _ (m : ℕ) where
 
 pub ruleset mode-ways = (mode-none, mode-low, mode-high, mode-entire, mode-other)
 
--- a call with its mode as a number is the call with the mode, or the refusal
+-- what holds of the call with the mode, or of the refusal, holds of the call with the number
+module _ {H W : Type 0} (call : Mode → Done Outcome H W) (n : ℕ) (h : H) (ws : W) (m : ℕ) (v : Given) (e : v ≡ givenMode m) where
+  pub with-known : (Met : Done Outcome H W → Type 0) (mode : Mode) → v ≡ Given.Mode mode → Met (call mode) → Met (withMode call n h ws (givenMode m))
+  with-known Met mode f met = let g : givenMode m ≡ Given.Mode mode = sym e ∙ f in rw g met
+
+  pub with-unknown : (Met : Done Outcome H W → Type 0) → v ≡ Given.Unknown → Met (record { out = refused n; handle = h; words = ws }) → Met (withMode call n h ws (givenMode m))
+  with-unknown Met f met = let g : givenMode m ≡ Given.Unknown = sym e ∙ f in rw g met
+
+-- of a land: what is shown of it, and its words
 module _ {H W R : Type 0} (show : Done Outcome H W → R) (call : Mode → Done Outcome H W) (n : ℕ) (h : H) (ws : W) (m : ℕ) (v : Given) (e : v ≡ givenMode m) where
   pub mode-known : (mode : Mode) → v ≡ Given.Mode mode → (r : R) (ws' : W) → (r ≡ show (call mode)) × (ws' ≡ call mode .words) →
       (r ≡ show (withMode call n h ws (givenMode m))) × (ws' ≡ withMode call n h ws (givenMode m) .words)
-  mode-known mode f r ws' p = let g : givenMode m ≡ Given.Mode mode = sym e ∙ f in rw g p
+  mode-known mode f r ws' p = with-known call n h ws m v e (λ d. (r ≡ show d) × (ws' ≡ d .words)) mode f p
 
   pub mode-unknown : v ≡ Given.Unknown → (r : R) → r ≡ show (record { out = refused n; handle = h; words = ws }) →
       (r ≡ show (withMode call n h ws (givenMode m))) × (ws ≡ withMode call n h ws (givenMode m) .words)
-  mode-unknown f r p = let g : givenMode m ≡ Given.Unknown = sym e ∙ f in rw g (p, refl)
+  mode-unknown f r p = with-unknown call n h ws m v e (λ d. (r ≡ show d) × (ws ≡ d .words)) f (p, refl)

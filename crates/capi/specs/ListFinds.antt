@@ -8,6 +8,7 @@ use Rattle.list_land.specs.declared.ListLand.{ListLand}
 use Rattle.list_land.specs.declared.Look.{Look}
 use Rattle.capi.specs.Modes.{givenMode, unknownMode, withMode}
 
+-- With a number that is no mode, 5, 6 or 4, and the handle and the words as they were.
 abbrev pub foundBy : ListLand → List ℕ → Which → ℕ → ℕ → LandDone
 foundBy h ws w n m = withMode (found h ws w n) (unknownMode (setUp h ws) (sound h ws)) h ws (givenMode m)
 

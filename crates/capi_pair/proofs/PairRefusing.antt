@@ -1,20 +1,22 @@
 -- A find of the pair with its mode as a number: the ways out. Assumes nothing.
 use Prim.Native.Nat.{ℕ}
 use mathlib.Core.List.{List}
-use mathlib.Core.Path.{_≡_, refl, sym, _∙_}
+use mathlib.Core.Path.{_≡_, refl, _∙_}
 use Rattle.units.proofs.Tests.{by}
 use Rattle.units.specs.Words.{rangeOf}
 use Rattle.units.specs.declared.Mode.{Mode}
 use Rattle.units.specs.declared.Range.{Range}
 use Rattle.units.specs.declared.Which.{Which}
 use Rattle.units.specs.declared.aims.Aim.{Aim}
-use Rattle.pair.specs.Calls.{found, foundOf, foundNone}
+use Rattle.pair_model.specs.Pairs.{both}
+use Rattle.pair.specs.Calls.{lands, PairDone, found, foundOf, foundNone}
 use Rattle.pair.specs.Parts.{setUp, sound, checkOf}
 use Rattle.pair.specs.declared.Found.{Found}
 use Rattle.pair.specs.declared.Pair.{Pair}
 use Rattle.pair.specs.declared.PairCheck.{PairCheck}
 use Rattle.capi.specs.Modes.{givenMode, unknownMode}
 use Rattle.capi.specs.declared.modes.Given.{Given}
+use Rattle.capi.proofs.GivenModes.{with-known, with-unknown}
 use Rattle.capi_pair.specs.PairFinds.{foundBy, modeAnswer}
 
 module _ (p : Pair) (ws vs : List ℕ) where
@@ -29,11 +31,15 @@ module _ (p : Pair) (ws vs : List ℕ) where
       rw (a, g, k)
 
   module _ (w : Which) (n m : ℕ) (v : Given) (e : v ≡ givenMode m) where
-    pub found-known : (mode : Mode) → v ≡ Given.Mode mode → (f : Found) (ws' vs' : List ℕ) →
-        (f ≡ foundOf (found p ws vs w n mode)) × (ws' ≡ found p ws vs w n mode .words .list) × (vs' ≡ found p ws vs w n mode .words .block) →
-        (f ≡ foundOf (foundBy p ws vs w n m)) × (ws' ≡ foundBy p ws vs w n m .words .list) × (vs' ≡ foundBy p ws vs w n m .words .block)
-    found-known mode g f ws' vs' h = let k : givenMode m ≡ Given.Mode mode = sym e ∙ g in rw k h
+    -- what a find hands back: its result, and the words of both memories
+    abbrev Hands : Found → List ℕ → List ℕ → PairDone → Type 0
+    Hands r ws' vs' d = (r ≡ foundOf d) × (ws' ≡ d .words .list) × (vs' ≡ d .words .block)
 
-    pub found-unknown : v ≡ Given.Unknown → (f : Found) → f ≡ foundNone p (unknownMode (setUp p ws vs) (sound p ws vs)) →
-        (f ≡ foundOf (foundBy p ws vs w n m)) × (ws ≡ foundBy p ws vs w n m .words .list) × (vs ≡ foundBy p ws vs w n m .words .block)
-    found-unknown g f h = let k : givenMode m ≡ Given.Unknown = sym e ∙ g in rw k (h, refl, refl)
+    abbrev refusal : ℕ
+    refusal = unknownMode (setUp p ws vs) (sound p ws vs)
+
+    pub found-known : (mode : Mode) → v ≡ Given.Mode mode → (r : Found) (ws' vs' : List ℕ) → Hands r ws' vs' (found p ws vs w n mode) → Hands r ws' vs' (foundBy p ws vs w n m)
+    found-known mode f r ws' vs' = with-known (found p ws vs w n) refusal (lands p) (both ws vs) m v e (Hands r ws' vs') mode f
+
+    pub found-unknown : v ≡ Given.Unknown → (r : Found) → r ≡ foundNone p refusal → Hands r ws vs (foundBy p ws vs w n m)
+    found-unknown f r h = with-unknown (found p ws vs w n) refusal (lands p) (both ws vs) m v e (Hands r ws vs) f (h, refl, refl)

@@ -68,13 +68,14 @@ module _ (p : Pair) (vs : List ℕ) (y : units.Range) where
   enteredNodes = cond roomy (fill blocked vs) vs
 
 module _ (p : Pair) (ws vs : List ℕ) (y : units.Range) where
+  -- Into the block land where it has room, else into the list.
   abbrev pub entered : Changed
   entered = cond (roomy p vs y) (enterBlock p vs y) (enterList p ws y)
 
   abbrev pub enteredWords : List ℕ
   enteredWords = cond (roomy p vs y) ws (enterWords p ws y)
 
-  -- The same of both lands.
+  -- Both lands are sound and have no byte of the range, which is not empty.
   pub record Open (s : Spot) : Type 0 where
     pub in-list : Roomless p ws y s
     pub good : block.setUp (p .block) vs ≡ true
