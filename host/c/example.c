@@ -23,7 +23,7 @@ static void expect(const char *what, uint64_t answer, uint64_t wanted) {
 static void found(const char *what, uint64_t answer, lg_range range, lg_range old) {
     expect(what, answer, LG_ANSWER_OK);
     printf("  %" PRIu64 " to %" PRIu64 ", of %" PRIu64 " to %" PRIu64 "\n", range.base, range.limit, old.base, old.limit);
-    expect("  less than the range", range.limit - range.base < old.limit - old.base, 1);
+    expect("  a part of it", range.limit - range.base < old.limit - old.base, 1);
 }
 
 /* Two paragraphs of 40 bytes; the first is released, and released again. */
