@@ -4,7 +4,8 @@
 Every struct: C, C++ and Rust files are written that state the size, the offset and type of every field as the Rattle source has
 them, and compiled. Every function: parameters with their names, and the result. Neither file has a struct or a function that the
 Rattle source lacks, or lacks one. The archive exports these functions, and has no memory of its own that could be written.
-Besides: a dropped result is warned of, in each of the three languages, and the header is refused where the archive does not fit.
+Besides: a dropped result is warned of, in each of the three languages; the header is refused where the archive does not fit;
+host/c/calls.c calls every function on memory and on none; the C in README.md compiles.
 
 The last line is 'N passed, M failed'; the exit status is 0 exactly if M is 0.
 """
@@ -193,6 +194,25 @@ def elsewhere(room):
         yield f"refused with {flag}", None if status and REFUSED in said else said or "it is NOT refused"
 
 
+def called(interface):
+    """Whether the test in C has every function on memory, and on NULL."""
+    calls = re.findall(r"\b(lg_\w+)\(([^()]*)\)", read(os.path.join(TOP, "host", "c", "calls.c")))
+    lends = {name for name, (_, parameters) in interface.functions.items() if parameters}
+    on_memory = {name for name, arguments in calls if "NULL" not in arguments}
+    on_none = {name for name, arguments in calls if "NULL, 0" in arguments}
+    yield "every function called in C", ", ".join(sorted(set(interface.functions) - on_memory)) or None
+    yield "every function called in C on NULL", ", ".join(sorted(lends - on_none)) or None
+
+
+def read_me(room):
+    """Whether the two pieces of C in README.md compile: a program, and lines of a function."""
+    program, lines = re.findall(r"```c\n(.*?)```", read(os.path.join(TOP, "README.md")), flags=re.S)
+    lines = f'#include "limbegoru.h"\nlg_pair lines(void);\nlg_pair lines(void) {{\n{lines}return pair;\n}}\n'
+    for name, text in (("program", program), ("lines", lines)):
+        status, said = compiled(room, C, text)
+        yield f"the {name} in README.md", said if status else None
+
+
 def judged():
     interface = Interface()
     with tempfile.TemporaryDirectory() as room:
@@ -201,6 +221,8 @@ def judged():
         yield from archive(interface)
         yield from drops(interface, room)
         yield from elsewhere(room)
+        yield from called(interface)
+        yield from read_me(room)
 
 
 def main():
