@@ -1,7 +1,4 @@
-"""The interface for C as the Rattle source has it: the structs of repr(C) and the exported functions, written as C or as Rust.
-
-A Rattle struct and a Rust one of repr(C) have the same form, but no text of Rust is read here.
-"""
+"""The interface for C as the Rattle source has it: the structs of repr(C) and the exported functions, written as C or as Rust."""
 
 import glob
 import os
