@@ -1,23 +1,25 @@
 -- Demand 3 of the list land: an instance of the theorem of `model`. Assumes nothing.
 use Prim.Native.Nat.{ℕ, suc, _+_, _*_, _%_, _≤_}
-use mathlib.Core.Bool.{true, not, _&&_, or-true}
+use mathlib.Core.Bool.{true, false, not, _&&_, or-true}
 use mathlib.Core.List.{List, [], _∷_}
 use mathlib.Core.Path.{_≡_, refl}
 use native.Mathlib.Omega.{arith}
 use lib.Dec.{eqb}
 use borrow.Author.Tests.{eqb-true, eqb-false, not-true}
 use Rattle.units.specs.Words.{wordNumber}
-use Rattle.units.proofs.Tests.{by, and-left, and-right, or-second}
+use Rattle.units.proofs.Tests.{by, clash, and-left, and-right, or-second}
 use Rattle.model.specs.Marks.{Range, size}
 use Rattle.model.specs.Lists.{Apart, Aligned, marksOf}
-use Rattle.model.specs.Layouts.{holding}
-use Rattle.model.specs.Lands.{LandLaws}
+use Rattle.model.specs.Layouts.{Reading, fault, holding}
+use Rattle.model.specs.Lands.{land-answers, list-rules}
 use Rattle.model.proofs.Bytes.{in-yes}
+use Rattle.model.proofs.Playing.{wider}
 use Rattle.model.proofs.DemandMet.{demand-3}
 use Rattle.list_words.specs.Laying.{grain, described}
 use Rattle.list_land.specs.Layout.{base, setUp, readOf, layout}
 use Rattle.list_land.specs.Calls.{newLand, openedOf}
-use Rattle.list_land.specs.Demand.{ListDemand3, own-layout, OwnDemand3, HostMayWrite}
+use Rattle.list_land.specs.Demand.{ListDemand3, free-kept, OwnDemand3, HostMayWrite}
+use Rattle.list_land.specs.declared.ListLand.{ListLand}
 use Rattle.list_land.proofs.Sound.{placed, fine}
 use Rattle.list_land.proofs.LayoutLaws.{reads, read-laid, list-laws}
 
@@ -57,17 +59,13 @@ host-may-write h ws ws' rs e n f =
     (n, λ i d. f i (described-free (base h) (base h) (h .limit .0) rs i (omega arith) (g .base8) (rw (p .same) at (g .apart)) (rw (p .same) at (g .aligned)) (rw e at d)))
 
 -- DOCUMENT 01'S OWN HOST
-own-laws : LandLaws own-layout
-own-laws = record {
-  sound = list-laws .sound;
-  read-write = list-laws .read-write;
-  arena-write = list-laws .arena-write;
-  read-host = λ h ws ws' rs e m. list-laws .read-host h ws ws' rs e (host-may-write h ws ws' rs e (m .0) (λ i f. m .1 i (rw e f)));
-  arena-host = λ h ws ws' m. refl;
-  host-idle = λ h ws. (refl, λ i f. refl);
-}
+pub own-host : (h : ListLand) (ws ws' : List ℕ) → free-kept h ws ws' → layout .host h ws ws'
+own-host h ws ws' m = read-as (readOf h ws) refl
+  where
+    read-as : (g : Reading (List Range)) → readOf h ws ≡ g → layout .host h ws ws'
+    read-as (fault n) e = (m .0, λ i d. let z : false ≡ true = rw e at d in clash z refl)
+    read-as (holding rs) e = host-may-write h ws ws' rs e (m .0) (λ i f. m .1 i (rw e f))
 
 pub own-demand-3 : OwnDemand3
 own-demand-3 b l a ws e cs os t =
-    let g = opened-good b l a ws e in
-    demand-3 own-layout own-laws (newLand b l a) ws [] (opened-empty b l a ws (g .0)) cs os (rw (g .1) at t)
+    list-demand-3 b l a ws e cs os (wider land-answers list-rules layout free-kept own-host (openedOf b l a ws .land) ws cs os t)

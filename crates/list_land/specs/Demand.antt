@@ -8,7 +8,7 @@ use lib.ListN.{length, getD}
 use Rattle.model.specs.Marks.{Range, none-marked}
 use Rattle.model.specs.Lists.{marksOf}
 use Rattle.model.specs.Calls.{Call, Outcome}
-use Rattle.model.specs.Layouts.{holding}
+use Rattle.model.specs.Layouts.{holding, with-host}
 use Rattle.model.specs.Histories.{Seen}
 use Rattle.model.specs.Lands.{Shown, LandLayout, LandHistory}
 use Rattle.model.specs.Demand.{Claims}
@@ -39,18 +39,8 @@ abbrev pub free-kept : ListLand → List ℕ → List ℕ → Type 0
 free-kept h ws ws' =
     (length ws' ≡ length ws) × ((i : ℕ) → free-word h (ranges-in (readOf h ws)) i ≡ true → getD ws' i 0 ≡ getD ws i 0)
 
-abbrev pub own-layout : LandLayout ListLand
-own-layout = record {
-  arena = layout .arena;
-  read = layout .read;
-  show = layout .show;
-  close = layout .close;
-  words = layout .words;
-  host = free-kept;
-}
-
 abbrev pub OwnDemand3 : Type 0
-OwnDemand3 = Demand3For own-layout
+OwnDemand3 = Demand3For (with-host layout free-kept)
 
 -- What the host may write in the wider claim includes every word that is not free.
 abbrev pub HostMayWrite : Type 0

@@ -11,6 +11,7 @@ use Rattle.units.proofs.Tests.{by, and-left, and-right}
 use Rattle.model.specs.Calls.{refused, accepted}
 use Rattle.model.specs.Layouts.{Reading, fault, holding}
 use Rattle.model.specs.Marks.{Range}
+use Rattle.model.proofs.Outcomes.{fault-number}
 use Rattle.list_words.specs.Laying.{lay}
 use Rattle.list_words.specs.Surveys.{kept-of}
 use Rattle.list_words.specs.declared.Spot.{Spot}
@@ -29,7 +30,7 @@ use Rattle.flush.specs.declared.FlushCheck.{FlushCheck}
 use Rattle.pair_model.specs.Pairs.{both, PairCall, Sets, keep, pair-step}
 use Rattle.pair_model.specs.PairLayouts.{meet, pair-read}
 use Rattle.pair.specs.Calls.{lands, PairDone, called}
-use Rattle.pair.specs.Parts.{setUp, sound, checkOf, Checked}
+use Rattle.pair.specs.Parts.{setUp, sound, checkOf, checkNumber, Checked}
 use Rattle.pair.specs.declared.Pair.{Pair}
 use Rattle.pair.specs.declared.PairCheck.{PairCheck}
 use Rattle.pair.proofs.Checking.{list-up, block-up, flush-good}
@@ -90,6 +91,16 @@ module _ (p : Pair) (ws vs : List ℕ) where
         let t = and-left (block.sound (p .block) vs) _ r in
         let m = not-true (meet rs qs) (and-right (block.sound (p .block) vs) _ r) in
         rw (list-laws.held (p .list) ws (list-up p ws vs g) s, block-laws.held (p .block) vs (block-up p ws vs g) t, same, m)
+
+-- the number of a check is the number that the handles and the words are read with
+pub check-number : (p : Pair) (ws vs : List ℕ) (aim : Aim) → checkNumber (checkOf p ws vs aim) ≡ fault-number (reads p ws vs)
+unfolding checkOf
+check-number p ws vs aim =
+    by (setUp p ws vs)
+    (λ g. by (sound p ws vs)
+    (λ s. rw (g, s, reads-both p ws vs g s))
+    (λ s. rw (g, s, reads-6 p ws vs g s)))
+    (λ g. rw (g, reads-5 p ws vs g))
 
 -- WHAT A CALL HANDS BACK
 -- a refusal: the handles and the words given

@@ -1,19 +1,20 @@
 -- The checks of a call of a pair: their ways out, and what they say of both lands. Assumes nothing.
 use Prim.Native.Nat.{ℕ}
-use mathlib.Core.Bool.{Bool, true, false, cond, _&&_, and-false}
+use mathlib.Core.Bool.{Bool, true, false, not, cond, _&&_, and-false}
 use mathlib.Core.List.{List, [], _∷_}
 use mathlib.Core.Logic.{⊎-elim}
-use mathlib.Core.Path.{_≡_, sym, _∙_}
+use mathlib.Core.Path.{_≡_, ap, _∙_}
 use native.Mathlib.Omega.{arith}
 use types.Run.{OneOf}
 use denote.Enum.Declared.{tagOf}
-use Rattle.units.specs.Rules.{setUpOf}
+use Rattle.units.specs.Rules.{setUpOf, soundnessOf}
 use Rattle.units.specs.Words.{rangeOf}
 use Rattle.units.specs.declared.Range.{Range}
 use Rattle.units.specs.declared.aims.Aim.{Aim}
 use Rattle.units.specs.declared.rules.Arena as units
 use Rattle.units.specs.declared.rules.SetUp.{SetUp}
-use Rattle.units.proofs.Cases.{set-up-true, set-up-false}
+use Rattle.units.specs.declared.rules.Soundness.{Soundness}
+use Rattle.units.proofs.Cases.{set-up-true, set-up-false, sound-true, sound-false}
 use Rattle.units.proofs.Tests.{by, and-left, and-right}
 use Rattle.list_words.specs.Surveys.{walkOf, kept-of}
 use Rattle.list_words.specs.declared.Spot.{Spot}
@@ -138,19 +139,22 @@ module _ (p : Pair) (ws vs : List ℕ) (aim : Aim) (r : SetUp) (er : r ≡ setUp
         same-met : meet (walkOf a ws (p .list .head .0) .met) (block.tableOf (p .block) vs) ≡ meet (list.walkOf (p .list) ws .met) (block.tableOf (p .block) vs)
         same-met = rw ea
 
-        module _ (o : Bool) (oe : o ≡ meet (walkOf a ws (p .list .head .0) .met) (pairs vs (p .block .ranges))) where
-          eo : o ≡ meet (list.walkOf (p .list) ws .met) (block.tableOf (p .block) vs)
-          eo = oe ∙ same-met
+        module _ (o : Soundness) (oe : o ≡ soundnessOf (not (meet (walkOf a ws (p .list .head .0) .met) (pairs vs (p .block .ranges))))) where
+          abbrev are-apart : Bool
+          are-apart = not (meet (list.walkOf (p .list) ws .met) (block.tableOf (p .block) vs))
 
-          pub check-overlap : o ≡ true → PairCheck.Damaged ≡ checkOf p ws vs aim
+          eo : o ≡ soundnessOf are-apart
+          eo = oe ∙ ap (λ (t : Bool). soundnessOf (not t)) same-met
+
+          pub check-overlap : o ≡ Soundness.Damaged → PairCheck.Damaged ≡ checkOf p ws vs aim
           unfolding checkOf
-          check-overlap h = rw (good, list-whole .0, block-whole .0, sym eo ∙ h)
+          check-overlap h = rw (good, list-whole .0, block-whole .0, sound-false are-apart o eo h)
 
-          pub check-good : o ≡ false → PairCheck.Good s e ≡ checkOf p ws vs aim
+          pub check-good : o ≡ Soundness.Sound → PairCheck.Good s e ≡ checkOf p ws vs aim
           unfolding checkOf
           check-good h =
               let x = list-whole .1 in
               let y = block-whole .1 in
-              rw (good, list-whole .0, block-whole .0, sym eo ∙ h) (λ i. PairCheck.Good (x i) (y i))
+              rw (good, list-whole .0, block-whole .0, sound-true are-apart o eo h) (λ i. PairCheck.Good (x i) (y i))
 
 pub ruleset checks = (check-up, check-list, check-block, check-going, check-overlap, check-good)

@@ -1,4 +1,5 @@
 pub mod Calls
+pub mod Right
 pub mod Demand
 pub mod Parts
 pub mod Editing

@@ -15,6 +15,7 @@ use list_words::Spot;
 use units::Aim;
 use units::Range;
 use units::SetUp;
+use units::Soundness;
 ghost use mathlib.Core.Path.{_≡_};
 ghost use Rattle.pair.specs.Calls.{refusedBy, foundNone};
 ghost use Rattle.units.specs.Rules.{setUpOf};
@@ -104,9 +105,15 @@ impl Pair {
         let block_land::Look::Sound(entry) = block.look(nodes, aim) else {
             return PairCheck::Damaged;
         };
-        if pair_words::overlap(list.arena(), words, list.head, nodes, block.ranges) {
+        let Soundness::Sound = pair_words::apart(
+            list.arena(),
+            words,
+            list.head,
+            nodes,
+            block.ranges,
+        ) else {
             return PairCheck::Damaged;
-        }
+        };
         PairCheck::Good(spot, entry)
     }
 }

@@ -7,10 +7,12 @@ use units::Addr;
 use units::Arena;
 use units::Range;
 use units::Size;
+use units::Soundness;
 ghost use Prim.Native.Nat.{_≤_};
-ghost use mathlib.Core.Bool.{cond};
+ghost use mathlib.Core.Bool.{not, cond};
 ghost use mathlib.Core.Path.{_≡_};
 ghost use lib.Dec.{leb};
+ghost use Rattle.units.specs.Rules.{soundnessOf};
 ghost use Rattle.units.specs.declared.aims.Aim.{Aim};
 ghost use Rattle.list_words.specs.Surveys.{walkOf, kept-of};
 ghost use Rattle.block_words.specs.Words.{capacity, pairs};
@@ -61,10 +63,11 @@ fn pass(nodes: &[u64], n: usize, from: usize, at: Addr) -> usize
     i
 }
 
-// Whether some range of a sound list overlaps one of a sound table. Both are gone through once, in address order.
-pub fn overlap(arena: Arena, words: &[u64], head: Addr, nodes: &[u64], count: u64) -> bool
+// Whether no range of a sound list overlaps one of a sound table: lands that overlap are damaged. Both are gone through once,
+// in address order.
+pub fn apart(arena: Arena, words: &[u64], head: Addr, nodes: &[u64], count: u64) -> Soundness
     requires { ⌜ Going arena (now words) (head .0) (now nodes) count ⌝ }
-    ensures { λ r. ⌜ r ≡ meet (walkOf arena (now (words .entry)) (head .0) .met) (pairs (now (nodes .entry)) count) ⌝ }
+    ensures { λ r. ⌜ r ≡ soundnessOf (not (meet (walkOf arena (now (words .entry)) (head .0) .met) (pairs (now (nodes .entry)) count))) ⌝ }
 {
     let n = count as usize;
     let mut at = head;
@@ -73,15 +76,15 @@ pub fn overlap(arena: Arena, words: &[u64], head: Addr, nodes: &[u64], count: u6
         let here = descriptor_at(arena, words, at);
         i = pass(nodes, n, i, at);
         if n <= i {
-            return false;
+            return Soundness::Sound;
         }
         let pair = block_words::pair_at(nodes, i);
         if !here.limit.le(pair.base) {
-            return true;
+            return Soundness::Damaged;
         }
         at = here.next;
     }
-    false
+    Soundness::Sound
 }
 
 // The higher and the lower of two addresses.

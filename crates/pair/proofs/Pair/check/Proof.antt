@@ -37,20 +37,49 @@ returns-3 c = search checks
 arena-requires : tie.Need-arena-requires
 arena-requires c κs = search needs
 
-overlap-requires : tie.Need-overlap-requires
-overlap-requires c κs =
-    check-going (c .before .before .before .before .before .before .before .before .before .before .before .before .before .before .before .before .args .self) _ _ (c .before .before .before .before .before .before .before .before .before .before .before .before .before .before .before .before .args .aim) _ (c .before .before .before .before .before .before .before .before .before .before .before .before .before .set-up .ensures) (c .before .before .before .before .before .before .before .before .before .before .before .enum-told .given .1) _ (c .before .before .before .before .before .before .before .before .before .look .ensures) _ (c .before .before .before .before .before .before .before .spot .given .1)
-    _ (c .before .before .before .before .look2 .ensures) _ (c .before .before .entry .given .1) _ (c .arena .ensures)
+apart-requires : tie.Need-apart-requires
+apart-requires c κs =
+    let table = c .before .before in
+    let second = table .before .before in
+    let list = second .before .before .before in
+    let first = list .before .before in
+    let good = first .before .before in
+    let up = good .before .before in
+    let entry = up .before .before .before in
+    check-going (entry .args .self) _ _ (entry .args .aim) _ (up .set-up .ensures) (good .enum-told .given .1) _ (first .look .ensures) _ (list .spot .given .1)
+    _ (second .look2 .ensures) _ (table .entry .given .1) _ (c .arena .ensures)
+
+enum-told-3 : tie.Need-enum-told-3
+enum-told-3 c = search needs
+
+enum-told-4 : tie.Need-enum-told-4
+enum-told-4 c = search needs
 
 returns-4 : tie.Need-returns-4
 returns-4 c =
-    check-overlap (c .before .before .before .before .before .before .before .before .before .before .before .before .before .before .before .before .before .before .args .self) _ _ (c .before .before .before .before .before .before .before .before .before .before .before .before .before .before .before .before .before .before .args .aim) _ (c .before .before .before .before .before .before .before .before .before .before .before .before .before .before .before .set-up .ensures) (c .before .before .before .before .before .before .before .before .before .before .before .before .before .enum-told .given .1) _ (c .before .before .before .before .before .before .before .before .before .before .before .look .ensures) _ (c .before .before .before .before .before .before .before .before .before .spot .given .1)
-    _ (c .before .before .before .before .before .before .look2 .ensures) _ (c .before .before .before .before .entry .given .1) _ (c .before .before .arena .ensures) _ (c .before .overlap .ensures) (c .if1 .taken)
+    let merged = c .before .before in
+    let table = merged .before .before .before in
+    let second = table .before .before in
+    let list = second .before .before .before in
+    let first = list .before .before in
+    let good = first .before .before in
+    let up = good .before .before in
+    let entry = up .before .before .before in
+    check-overlap (entry .args .self) _ _ (entry .args .aim) _ (up .set-up .ensures) (good .enum-told .given .1) _ (first .look .ensures) _ (list .spot .given .1)
+    _ (second .look2 .ensures) _ (table .entry .given .1) _ (merged .before .arena .ensures) _ (merged .apart .ensures) (c .enum-told4 .given .1)
 
 returns-5 : tie.Need-returns-5
 returns-5 c =
-    check-good (c .before .before .before .before .before .before .before .before .before .before .before .before .before .before .before .before .before .before .args .self) _ _ (c .before .before .before .before .before .before .before .before .before .before .before .before .before .before .before .before .before .before .args .aim) _ (c .before .before .before .before .before .before .before .before .before .before .before .before .before .before .before .set-up .ensures) (c .before .before .before .before .before .before .before .before .before .before .before .before .before .enum-told .given .1) _ (c .before .before .before .before .before .before .before .before .before .before .before .look .ensures) _ (c .before .before .before .before .before .before .before .before .before .spot .given .1)
-    _ (c .before .before .before .before .before .before .look2 .ensures) _ (c .before .before .before .before .entry .given .1) _ (c .before .before .arena .ensures) _ (c .before .overlap .ensures) (c .if1 .left)
+    let merged = c .before .before in
+    let table = merged .before .before .before in
+    let second = table .before .before in
+    let list = second .before .before .before in
+    let first = list .before .before in
+    let good = first .before .before in
+    let up = good .before .before in
+    let entry = up .before .before .before in
+    check-good (entry .args .self) _ _ (entry .args .aim) _ (up .set-up .ensures) (good .enum-told .given .1) _ (first .look .ensures) _ (list .spot .given .1)
+    _ (second .look2 .ensures) _ (table .entry .given .1) _ (merged .before .arena .ensures) _ (merged .apart .ensures) (c .enum-told3 .given .1)
 
 pub check-spec : {M : Type 1} → statement M
 check-spec =
@@ -67,6 +96,8 @@ check-spec =
     enum-known-entry
     returns-3
     arena-requires
-    overlap-requires
+    apart-requires
+    enum-told-3
+    enum-told-4
     returns-4
     returns-5)
