@@ -76,6 +76,7 @@ FILES = {
     "mir-of-another-shape": f'(fn-def "one::f" (fnItem 0 lnil {TEST.format(SUM)}))',
 }
 RESHAPES = "file: src/lib.rt\nold:     1\nnew:     if x { return 2; } 1\n"
+OTHER_OPERAND = {"crates/one/must-fail/more/other.edit": RESHAPES, "mir-of-another-shape": FILES["mir"].replace("(int 8 1)", "(int 8 2)")}
 LOG_OF_RT = "target/must-fail/one/code/.log"
 REFUSES = "cat $top/log; exit 1"
 PASSED = ["3 edits found, 3 judged: 2 of code, 1 of definitions or contracts", "3 passed, 0 failed"]
@@ -86,6 +87,7 @@ RUNS = [
     ("prints what is no text", rf"printf '\377\n'; {REFUSES}", [], {}, 0, PASSED),
     ("accepts", "echo logic=proved", [], {}, 1, ["NOT REFUSED", "0 passed, 3 failed"]),
     ("is killed", "kill -9 $$", [], {}, 1, ["did not reach the prover", "0 passed, 3 failed"]),
+    ("could not tell", "cat $top/log; exit 3", [], {}, 1, ["it ended with 3", "0 passed, 3 failed"]),
     ("says no error", f"echo {ENDED}; exit 1", [], {}, 1, ["without an error", "0 passed, 3 failed"]),
     ("spoils its copy", f"rm -r crates; {REFUSES}", [], {}, 1, ["a worker FAILED at one", "3 edits found, 0 judged", "one/other: FAILED: it was not judged"]),
     ("breaks what was proved", f"touch broken; {REFUSES}", [], {}, 1, ["not proved once its edits are undone"]),
@@ -93,6 +95,9 @@ RUNS = [
     ("refuses, but knows no function", REFUSES, [], {"mir": "(program)"}, 1, ["a worker FAILED at one", "it was not judged"]),
     ("refuses, one for its shape", REFUSES, [], {"crates/one/must-fail/more/other.edit": RESHAPES}, 1, ["one/other: FAILED: refused for its shape", "2 passed, 1 failed"]),
     ("refuses, one with a proof of its shape", REFUSES, [], {"crates/one/must-fail/more/other.edit": f"{RESHAPES}file: proofs/f/Proof.antt\nold: as tie\nnew: as t\n"}, 0, PASSED),
+    ("refuses, one with another operand", REFUSES, [], OTHER_OPERAND, 0, PASSED),
+    ("refuses, one with another operand under a proof by hand", REFUSES, [], OTHER_OPERAND | {PROOF: "by hand\n"}, 1, ["one/other: FAILED: refused for its shape"]),
+    ("refuses, and does not compile one", REFUSES, [], {"crates/one/must-fail/more/other.edit": RESHAPES, "mir-of-another-shape": ""}, 1, ["it does not compile"]),
     ("refuses, one text not in its file", REFUSES, [], {"crates/one/must-fail/more/other.edit": "file: src/lib.rt\nold: 7\nnew: 8\n"}, 1, ["in its file 0 times"]),
     ("refuses, an edit in another folder", REFUSES, [], {"crates/one/must-fail/more/more/lost.edit": ""}, 1, ["lost.edit: FAILED"]),
     ("refuses, an edit with another name", REFUSES, [], {"crates/one/must-fail/lost.edit.txt": ""}, 1, ["lost.edit.txt: FAILED"]),
@@ -116,7 +121,7 @@ def script(top, does):
     return f"""#!/bin/sh
 top={top}
 if [ $1 = mir ]; then
-    if grep -q return crates/one/src/lib.rt; then exec cat $top/mir-of-another-shape; fi
+    if grep -q return crates/one/src/lib.rt; then exec grep . $top/mir-of-another-shape; fi
     exec cat $top/mir
 fi
 mkdir -p target/inc/one/modules
