@@ -2,6 +2,7 @@
 """Tries must-fail edits, each of which the prover must refuse because a fact fails.
 
     python3 .ci/edits.py [--one] [--keep FOLDER] [CRATE...]    after rt check: every edit of the crates
+    python3 .ci/edits.py --look [CRATE...]    tries nothing: whether every edit can be applied
     python3 .ci/edits.py --after-ci    after rt ci: every edit; of those that rt ci has tried it reads the logs
 
 Run from the top of the repository. The edits in crates/NAME/must-fail are also tried by rt ci, which checks the edited crate
@@ -236,9 +237,23 @@ def try_all(todo, given, record):
             worker.join()
 
 
+def look(todo, record):
+    """Whether the edits of (crate, edits) pairs can be applied; gives the exit status."""
+    for crate, edits in todo:
+        for edit in edits:
+            try:
+                edited(".", crate, edit)
+            except BadEdit as bad:
+                record.fault(f"edit {name_of(crate, edit)}: FAILED: {bad}")
+    found = sum(len(edits) for _, edits in todo)
+    print(f"{found} edits found, {record.faults} failed")
+    return 0 if found and not record.faults else 1
+
+
 def words():
     """What is asked for."""
     parser = argparse.ArgumentParser()
+    parser.add_argument("--look", action="store_true")
     parser.add_argument("--after-ci", action="store_true")
     parser.add_argument("--one", action="store_true")
     parser.add_argument("--keep", metavar="FOLDER")
@@ -252,6 +267,8 @@ def main():
     todo = [(crate, by_rt(crate) + further(crate)) for crate in wanted]
     for stray in strays():
         record.fault(f"{stray}: FAILED: nothing tries it")
+    if given.look:
+        return look(todo, record)
     try_all([pair for pair in todo if pair[1]], given, record)
     return record.verdict([name_of(crate, edit) for crate, edits in todo for edit in edits])
 

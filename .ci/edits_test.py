@@ -15,8 +15,9 @@ from shapes import read, steps
 
 HERE = os.path.dirname(os.path.abspath(__file__))
 PROOF = "crates/one/proofs/f/Proof.antt"
+OTHER = "crates/one/must-fail/more/other.edit"
 ENDED = "logic=not-proved functions=1"
-FACT = f"{PROOF}:3:5: error: `returns-2`: `search`: no proof of `a ≡ b`\n  was found. `x` is not in scope here, so what is shown does not paste back"
+FACT = f"{PROOF}:3:5: error: `returns-2`: `search`: no proof of `a ≡ b`\n  was found. `x` is not in scope here"
 LATER = f"{PROOF}:9:5: error: `f-spec`: `returns-2` was not admitted (it has holes, or was rejected), so this cannot be checked"
 LAW = "crates/one/proofs/Laws.antt:7:2: error: `sum`: `omega`: the goal does not follow from what it read."
 NEED = "note: crates/one/src/lib.rt:3:5: it is not proved that what `g` requires holds at this call (`g-requires`)"
@@ -68,7 +69,7 @@ FILES = {
     PROOF: "use Rattle.one.proofs.f.Tie as tie\n",
     "crates/one/must-fail/code.edit": "# Another number.\nfile: src/lib.rt\nold:     1\nnew:     2\n",
     "crates/one/must-fail/more/contract.edit": "file: src/lib.rt\nold: r ≡ 1\nnew: r ≡ 2\n",
-    "crates/one/must-fail/more/other.edit": "file: src/lib.rt\nold:     1\nnew:     3\n",
+    OTHER: "file: src/lib.rt\nold:     1\nnew:     3\n",
     "target/rlib/one.rlib/toolchain/checked/F": "",
     "target/stamp/one": "",
     "log": f"{FACT}\n{LATER}\n{ENDED}\n",
@@ -76,9 +77,13 @@ FILES = {
     "mir-of-another-shape": f'(fn-def "one::f" (fnItem 0 lnil {TEST.format(SUM)}))',
 }
 RESHAPES = "file: src/lib.rt\nold:     1\nnew:     if x { return 2; } 1\n"
-OTHER_OPERAND = {"crates/one/must-fail/more/other.edit": RESHAPES, "mir-of-another-shape": FILES["mir"].replace("(int 8 1)", "(int 8 2)")}
+NOWHERE = "file: src/lib.rt\nold: 7\nnew: 8\n"
+WITH_PROOF = f"{RESHAPES}file: proofs/f/Proof.antt\nold: as tie\nnew: as t\n"
+OTHER_OPERAND = {OTHER: RESHAPES, "mir-of-another-shape": FILES["mir"].replace("(int 8 1)", "(int 8 2)")}
 LOG_OF_RT = "target/must-fail/one/code/.log"
 REFUSES = "cat $top/log; exit 1"
+LOST = ["a worker FAILED", "3 edits found, 0 judged", "one/other: FAILED: it was not judged"]
+SHAPED = "one/other: FAILED: refused for its shape"
 PASSED = ["3 edits found, 3 judged: 2 of code, 1 of definitions or contracts", "3 passed, 0 failed"]
 
 # (what rt does, that of an edited crate as a shell script, words of edits.py, further files, exit status, what must be said)
@@ -89,16 +94,18 @@ RUNS = [
     ("is killed", "kill -9 $$", [], {}, 1, ["did not reach the prover", "0 passed, 3 failed"]),
     ("could not tell", "cat $top/log; exit 3", [], {}, 1, ["it ended with 3", "0 passed, 3 failed"]),
     ("says no error", f"echo {ENDED}; exit 1", [], {}, 1, ["without an error", "0 passed, 3 failed"]),
-    ("spoils its copy", f"rm -r crates; {REFUSES}", [], {}, 1, ["a worker FAILED at one", "3 edits found, 0 judged", "one/other: FAILED: it was not judged"]),
+    ("spoils its copy", f"rm -r crates; {REFUSES}", [], {}, 1, LOST),
     ("breaks what was proved", f"touch broken; {REFUSES}", [], {}, 1, ["not proved once its edits are undone"]),
-    ("is not there", None, [], {}, 1, ["a worker FAILED", "3 edits found, 0 judged", "one/code: FAILED: it was not judged"]),
-    ("refuses, but knows no function", REFUSES, [], {"mir": "(program)"}, 1, ["a worker FAILED at one", "it was not judged"]),
-    ("refuses, one for its shape", REFUSES, [], {"crates/one/must-fail/more/other.edit": RESHAPES}, 1, ["one/other: FAILED: refused for its shape", "2 passed, 1 failed"]),
-    ("refuses, one with a proof of its shape", REFUSES, [], {"crates/one/must-fail/more/other.edit": f"{RESHAPES}file: proofs/f/Proof.antt\nold: as tie\nnew: as t\n"}, 0, PASSED),
+    ("is not there", None, [], {}, 1, LOST),
+    ("refuses, but knows no function", REFUSES, [], {"mir": "(program)"}, 1, LOST),
+    ("refuses, one for its shape", REFUSES, [], {OTHER: RESHAPES}, 1, [SHAPED, "2 passed, 1 failed"]),
+    ("refuses, one with a proof of its shape", REFUSES, [], {OTHER: WITH_PROOF}, 0, PASSED),
     ("refuses, one with another operand", REFUSES, [], OTHER_OPERAND, 0, PASSED),
-    ("refuses, one with another operand under a proof by hand", REFUSES, [], OTHER_OPERAND | {PROOF: "by hand\n"}, 1, ["one/other: FAILED: refused for its shape"]),
-    ("refuses, and does not compile one", REFUSES, [], {"crates/one/must-fail/more/other.edit": RESHAPES, "mir-of-another-shape": ""}, 1, ["it does not compile"]),
-    ("refuses, one text not in its file", REFUSES, [], {"crates/one/must-fail/more/other.edit": "file: src/lib.rt\nold: 7\nnew: 8\n"}, 1, ["in its file 0 times"]),
+    ("refuses, one with another operand under a proof by hand", REFUSES, [], OTHER_OPERAND | {PROOF: "by hand\n"}, 1, [SHAPED]),
+    ("refuses, and does not compile one", REFUSES, [], {OTHER: RESHAPES, "mir-of-another-shape": ""}, 1, ["it does not compile"]),
+    ("refuses, one text not in its file", REFUSES, [], {OTHER: NOWHERE}, 1, ["in its file 0 times"]),
+    ("is not there for a look", None, ["--look"], {}, 0, ["3 edits found, 0 failed"]),
+    ("is not there for a look, one text not in its file", None, ["--look"], {OTHER: NOWHERE}, 1, ["in its file 0 times"]),
     ("refuses, an edit in another folder", REFUSES, [], {"crates/one/must-fail/more/more/lost.edit": ""}, 1, ["lost.edit: FAILED"]),
     ("refuses, an edit with another name", REFUSES, [], {"crates/one/must-fail/lost.edit.txt": ""}, 1, ["lost.edit.txt: FAILED"]),
     ("refuses, two edits of one name", REFUSES, [], {"crates/one/must-fail/more/code.edit": RESHAPES}, 1, ["code.edit: FAILED"]),
