@@ -84,14 +84,19 @@ def write(files):
 
 
 def run_rt(copy, *words):
-    """The exit status of rt in a copy, and what it wrote."""
+    """The exit status of rt in a copy, what it wrote, and what it wrote as errors."""
     ran = subprocess.run(["rt", *words], cwd=copy, stdin=subprocess.DEVNULL, capture_output=True)
-    said = (ran.stdout + ran.stderr).decode("utf-8", errors="replace")
-    return ran.returncode, said.replace(os.path.realpath(copy) + "/", "")
+    return ran.returncode, ran.stdout.decode("utf-8", errors="replace"), ran.stderr.decode("utf-8", errors="replace")
+
+
+def check(copy, crate):
+    """The exit status and the log of a check of a crate in a copy."""
+    status, said, errors = run_rt(copy, "dev", crate)
+    return status, (said + errors).replace(os.path.realpath(copy) + "/", "")
 
 
 def proved(copy, crate):
-    status, log = run_rt(copy, "dev", crate)
+    status, log = check(copy, crate)
     words = [line for line in log.split("\n") if line.startswith("logic=")]
     return status == 0 and bool(words) and words[-1].startswith("logic=proved")
 
@@ -134,9 +139,9 @@ class Trial:
 
     def compiled(self):
         """The functions of the crate as it now is in the copy."""
-        status, mir = run_rt(self.copy, "mir", self.crate)
+        status, mir, errors = run_rt(self.copy, "mir", self.crate)
         if status != 0:
-            raise BadEdit(f"it does not compile: {mir[:300]}")
+            raise BadEdit(f"it does not compile: {errors[:300]}")
         return functions(mir, self.crate)
 
     def shape(self, files):
@@ -149,7 +154,7 @@ class Trial:
         shape = self.shape(files) if code else []
         if self.given.after_ci and edit in by_rt(self.crate):
             return *log_of_rt(self.crate, edit), shape
-        return *run_rt(self.copy, "dev", self.crate), shape
+        return *check(self.copy, self.crate), shape
 
     def edit(self, edit):
         """Tries an edit."""
@@ -177,7 +182,7 @@ def folder_of_modules(copy):
     """The name under which the prover keeps checked modules in an incremental folder, seen at the smallest library."""
     libraries = [crate for crate in crates() if os.path.isdir(modules_of(copy, crate))]
     smallest = min(libraries, key=lambda crate: len(os.listdir(modules_of(copy, crate))))
-    run_rt(copy, "dev", smallest)
+    check(copy, smallest)
     return os.listdir(f"{copy}/target/inc/{smallest}")[0]
 
 
