@@ -1,24 +1,30 @@
 #!/usr/bin/env python3
-"""Tries must-fail edits, each a wrong program that the prover must refuse.
+"""Tries must-fail edits, each of which the prover must refuse because a fact fails.
 
-    python3 .ci/edits.py [CRATE...]    after rt check: every edit of the crates
-    python3 .ci/edits.py --after-ci    after rt ci: those that rt ci does not try; of the others it reads the logs
+    python3 .ci/edits.py [--one] [--keep FOLDER] [CRATE...]    after rt check: every edit of the crates
+    python3 .ci/edits.py --look [CRATE...]    tries nothing: whether every edit can be applied
+    python3 .ci/edits.py --after-ci    after rt ci: every edit; of those that rt ci has tried it reads the logs
 
 Run from the top of the repository. The edits in crates/NAME/must-fail are also tried by rt ci, which checks the edited crate
-from nothing; those in crates/NAME/must-fail/more are tried here alone.
+from nothing; those in crates/NAME/must-fail/more are tried here alone. --one tries one at a time, --keep writes what the prover
+said of each to FOLDER/CRATE/LABEL.log.
 
 An edit is applied to its crate in a copy of the repository, one for each processor, and the crate is checked over an
-incremental folder with the modules of the crate as it was proved: what the edit does not reach is not checked again. The edit passes if the prover
-refuses the crate because a fact fails. It fails if the crate is still proved, if it does not reach the prover, if an 'old:'
-text is not in its file exactly once, or if the first error is of a name: such a refusal says nothing about the program.
-After the last edit, which is undone like the others, the crate as it stands must be proved in the copy.
+incremental folder with the modules of the crate as it was proved: what the edit does not reach is not checked again. It fails
+if the crate is still proved, if it does not reach the prover, if an 'old:' text is not in its file exactly once, if the log has
+no error, or if the crate is refused only for the edit's shape: an error of a name or a need (refusals.py); no error outside the
+proofs of functions that got another shape (shapes.py), unless the edit brings the proof for it; only rewritings that do not
+apply. A right program of that shape would be refused as well. After the last edit of a crate, which is undone like the others,
+the crate must be proved in the copy.
 
-The last line is 'N passed, M failed'; the exit status is 0 exactly if M is 0.
+Every edit that is found is judged: if one is not, whatever became of the worker that had it, that is a failure. The last line
+but one says how many were found and judged, and how many change code and how many only definitions or contracts; the last line
+is 'N passed, M failed'. The exit status is 0 exactly if M is 0.
 """
 
+import argparse
 import os
 import queue
-import re
 import shutil
 import subprocess
 import sys
@@ -26,63 +32,49 @@ import tempfile
 import threading
 import time
 
-# A first error with one of these words is of a name or a form, not of a fact.
-OF_NAMES = re.compile(r"not in scope|has no `Need-|no `Tie`|has no field|takes \d+ arguments|is not declared")
+from editfiles import BadEdit, by_rt, crates, edited, further, name_of, strays
+from refusals import refusal
+from shapes import functions, proofs_of, reshaped
 
 
-class BadEdit(Exception):
-    pass
+class Record:
+    """What is known of each edit; several workers write to it."""
 
+    def __init__(self):
+        self.lock = threading.Lock()
+        self.wrong, self.code, self.faults = {}, 0, 0
 
-def crates():
-    with open("crates.txt", encoding="utf-8") as file:
-        lines = [line.split("#")[0] for line in file]
-    return [line.split(":")[0].strip() for line in lines if ":" in line]
+    def say(self, text):
+        with self.lock:
+            print(text, flush=True)
 
+    def judged(self, name, wrong, where="", code=False, took=0):
+        """Notes what is wrong with an edit, or None, and says it."""
+        with self.lock:
+            if name in self.wrong:
+                raise ValueError(f"{name} is judged twice")
+            self.wrong[name] = wrong
+            self.code += 1 if code else 0
+        self.say(f"edit {name}: refused at {where} ({took:.0f} s)" if wrong is None else f"edit {name}: FAILED: {wrong}")
 
-def edits_in(*folders):
-    folder = os.path.join("crates", *folders)
-    if not os.path.isdir(folder):
-        return []
-    return sorted(os.path.join(folder, name) for name in os.listdir(folder) if name.endswith(".edit"))
+    def fault(self, text):
+        """Notes something that is wrong with no single edit."""
+        with self.lock:
+            self.faults += 1
+        self.say(text)
 
-
-def edits_of(crate, after_ci):
-    """The edits of a crate that are to be tried here."""
-    tried_by_rt = [] if after_ci else edits_in(crate, "must-fail")
-    return tried_by_rt + edits_in(crate, "must-fail", "more")
-
-
-def name_of(crate, edit):
-    return f"{crate}/{os.path.basename(edit).removesuffix('.edit')}"
-
-
-def edited(copy, crate, edit):
-    """The files that an edit changes, as they were and as they are to be."""
-    before, after, place, old = {}, {}, None, None
-    with open(edit, encoding="utf-8") as file:
-        lines = file.read().split("\n")
-    for line in lines:
-        if line.startswith("file: "):
-            name = line[len("file: "):]
-            place = os.path.normpath(os.path.join(copy, "crates", crate, name))
-            if name.split("/")[0] not in ("src", "specs", "proofs") or ".." in name or not os.path.isfile(place):
-                raise BadEdit(f"no file {name} of the crate")
-            if place not in before:
-                with open(place, encoding="utf-8") as file:
-                    before[place] = after[place] = file.read()
-        elif line.startswith("old: "):
-            old = line[len("old: "):]
-        elif line.startswith("new:"):
-            if place is None or not old:
-                raise BadEdit("a 'new:' line without a file or an 'old:' line")
-            if after[place].count(old) != 1:
-                raise BadEdit(f"an 'old:' text is in its file {after[place].count(old)} times")
-            after[place] = after[place].replace(old, line[len("new:"):].removeprefix(" "))
-            old = None
-    if not after:
-        raise BadEdit("it has no 'old:' and 'new:' pair")
-    return before, after
+    def verdict(self, found):
+        """Says what became of the edits that were found; gives the exit status."""
+        for name in sorted(set(found) - set(self.wrong)):
+            self.fault(f"edit {name}: FAILED: it was not judged")
+        if not found:
+            self.fault("no edit was found")
+        judged = len(self.wrong)
+        passed = list(self.wrong.values()).count(None)
+        failed = judged - passed + self.faults
+        print(f"{len(found)} edits found, {judged} judged: {self.code} of code, {judged - self.code} of definitions or contracts")
+        print(f"{passed} passed, {failed} failed")
+        return 1 if failed else 0
 
 
 def write(files):
@@ -91,70 +83,94 @@ def write(files):
             file.write(text)
 
 
-def errors_in(said):
-    return [line for line in said.split("\n") if ": error" in line or re.match(r"note: \S+:\d+:\d+: it is not proved", line)]
+def run_rt(copy, *words):
+    """The exit status of rt in a copy, what it wrote, and what it wrote as errors."""
+    ran = subprocess.run(["rt", *words], cwd=copy, stdin=subprocess.DEVNULL, capture_output=True)
+    return ran.returncode, ran.stdout.decode("utf-8", errors="replace"), ran.stderr.decode("utf-8", errors="replace")
 
 
 def check(copy, crate):
-    """The exit status, the prover's last word, and the errors, of a crate in a copy."""
-    ran = subprocess.run(["rt", "dev", crate], cwd=copy, stdin=subprocess.DEVNULL, capture_output=True, text=True)
-    said = ran.stdout + ran.stderr
-    words = [line for line in said.split("\n") if line.startswith("logic=")]
-    errors = [line.replace(copy + "/", "").removeprefix("note: ") for line in errors_in(said)]
-    return ran.returncode, words[-1] if words else "", errors
-
-
-def place_of(errors):
-    """Where the first error stands that is no consequence of another."""
-    causes = [error for error in errors if "was not admitted" not in error] or errors or [""]
-    return causes[0].split(": error")[0].split(": it is not proved")[0]
+    """The exit status and the log of a check of a crate in a copy."""
+    status, said, errors = run_rt(copy, "dev", crate)
+    return status, (said + errors).replace(os.path.realpath(copy) + "/", "")
 
 
 def proved(copy, crate):
-    status, word, _ = check(copy, crate)
-    return status == 0 and word.startswith("logic=proved")
+    status, log = check(copy, crate)
+    words = [line for line in log.split("\n") if line.startswith("logic=")]
+    return status == 0 and bool(words) and words[-1].startswith("logic=proved")
 
 
-def judge(copy, crate, edit):
-    """What is wrong with an edit, or None, and where it is refused."""
-    try:
-        before, after = edited(copy, crate, edit)
-    except BadEdit as bad:
-        return str(bad), ""
-    try:
-        write(after)
-        status, word, errors = check(copy, crate)
-    finally:
-        write(before)
+def log_of_rt(crate, edit):
+    """How the check of an edit by rt ci ended, and its log."""
+    folder = os.path.join("target", "must-fail", name_of(crate, edit))
+    if not os.path.isfile(os.path.join(folder, ".log")):
+        raise BadEdit("rt ci has not tried it")
+    with open(os.path.join(folder, ".log"), encoding="utf-8", errors="replace") as file:
+        return 1, file.read().replace(os.path.realpath(folder) + "/", f"crates/{crate}/")
+
+
+def judge(status, log, shape):
+    """What is wrong with how the check of an edit ended, or None, and where the first fact fails."""
     if status == 0:
         return "NOT REFUSED: the crate is still proved", ""
-    first = errors[0] if errors else ""
-    if status != 1 or not word.startswith("logic=not-proved"):
-        return f"it did not reach the prover: {first[:300]}", ""
-    return of_a_name(first), place_of(errors)
+    if status != 1:
+        return f"it did not reach the prover: it ended with {status}", ""
+    return refusal(log, shape)
 
 
-def of_a_name(first):
-    """What is wrong with a refusal whose first error is this one, or None."""
-    return f"refused for a name, not for a fact: {first[:300]}" if OF_NAMES.search(first) else None
+def keep(folder, name, log):
+    if folder is not None:
+        place = os.path.join(folder, name + ".log")
+        os.makedirs(os.path.dirname(place), exist_ok=True)
+        with open(place, "w", encoding="utf-8") as file:
+            file.write(log)
 
 
-def read_logs(wanted, say):
-    """Of the edits that rt ci has tried: how many were refused for a name."""
-    failed = 0
-    for crate in wanted:
-        for edit in edits_in(crate, "must-fail"):
-            name = name_of(crate, edit)
-            log = os.path.join("target", "must-fail", name, ".log")
-            if not os.path.isfile(log):
-                wrong = "rt ci has not tried it"
-            else:
-                with open(log, encoding="utf-8") as file:
-                    wrong = of_a_name((errors_in(file.read()) or ["no error in the log"])[0])
-            if wrong is not None:
-                failed += 1
-                say(f"edit {name}: FAILED: {wrong}")
-    return failed
+class Trial:
+    """Edits of one crate, tried in a copy."""
+
+    def __init__(self, copy, crate, given, record):
+        self.copy, self.crate, self.given, self.record = copy, crate, given, record
+        self.functions = self.compiled()
+        unknown = proofs_of(copy, crate) - set(self.functions)
+        if unknown:
+            raise BadEdit(f"proofs of no function: {sorted(unknown)}")
+
+    def compiled(self):
+        """The functions of the crate as it now is in the copy."""
+        status, mir, errors = run_rt(self.copy, "mir", self.crate)
+        if status != 0:
+            raise BadEdit(f"it does not compile: {errors[:300]}")
+        return functions(mir, self.crate)
+
+    def shape(self, files):
+        """With an edit applied: the proofs that were written for another shape, and that it does not change itself."""
+        other = reshaped(self.copy, self.functions, self.compiled())
+        return [proof for proof in other if os.path.normpath(os.path.join(self.copy, proof)) not in files]
+
+    def tried(self, edit, files, code):
+        """With an edit applied: how its check ended, its log, and the proofs of another shape."""
+        shape = self.shape(files) if code else []
+        if self.given.after_ci and edit in by_rt(self.crate):
+            return *log_of_rt(self.crate, edit), shape
+        return *check(self.copy, self.crate), shape
+
+    def edit(self, edit):
+        """Tries an edit."""
+        name, began = name_of(self.crate, edit), time.time()
+        try:
+            before, after, code = edited(self.copy, self.crate, edit)
+            try:
+                write(after)
+                status, log, shape = self.tried(edit, after, code)
+            finally:
+                write(before)
+        except BadEdit as bad:
+            self.record.judged(name, str(bad))
+            return
+        keep(self.given.keep, name, log)
+        self.record.judged(name, *judge(status, log, shape), code, time.time() - began)
 
 
 def modules_of(copy, crate):
@@ -176,27 +192,9 @@ def lay_modules(copy, crate, folder):
         shutil.copytree(modules_of(copy, crate), f"{copy}/target/inc/{crate}/{folder}", dirs_exist_ok=True)
 
 
-def try_crate(copy, crate, edits, say):
-    """Tries edits of a crate in a copy; gives how many passed and how many failed."""
-    passed = failed = 0
-    for edit in edits:
-        began = time.time()
-        wrong, where = judge(copy, crate, edit)
-        name = name_of(crate, edit)
-        if wrong is None:
-            passed += 1
-            say(f"edit {name}: refused at {where} ({time.time() - began:.0f} s)")
-        else:
-            failed += 1
-            say(f"edit {name}: FAILED: {wrong}")
-    if not proved(copy, crate):
-        say(f"edits of {crate}: FAILED: the crate is not proved once its edits are undone")
-        failed += 1
-    return passed, failed
-
-
 def copy_to(folder):
     """A copy of the crates and of what was proved of them."""
+    os.mkdir(folder)
     shutil.copy("crates.txt", folder)
     shutil.copytree("crates", os.path.join(folder, "crates"))
     for part in ("rlib", "stamp"):
@@ -210,56 +208,74 @@ def weight(crate, edits):
     return len(edits) * sum(sizes)
 
 
-def try_all(todo, say):
-    """Tries the edits of (crate, edits) pairs, longest first, a copy for each processor."""
-    waiting, totals, lock = queue.Queue(), [0, 0], threading.Lock()
-    for crate, edits in sorted(todo, key=lambda pair: -weight(*pair)):
-        waiting.put((crate, edits))
-
-    def work(folder):
-        copy_to(folder)
-        modules = folder_of_modules(folder)
+def work(copy, waiting, given, record):
+    """Tries the edits of the crates that wait, in a copy of its own."""
+    crate = "no crate"
+    try:
+        copy_to(copy)
+        modules = folder_of_modules(copy)
         while True:
-            try:
-                crate, edits = waiting.get_nowait()
-            except queue.Empty:
-                return
-            lay_modules(folder, crate, modules)
-            passed, failed = try_crate(folder, crate, edits, say)
-            with lock:
-                totals[0] += passed
-                totals[1] += failed
+            crate, edits = waiting.get_nowait()
+            lay_modules(copy, crate, modules)
+            trial = Trial(copy, crate, given, record)
+            for edit in edits:
+                trial.edit(edit)
+            if not proved(copy, crate):
+                record.fault(f"edits of {crate}: FAILED: the crate is not proved once its edits are undone")
+    except queue.Empty:
+        return
+    except Exception as fault:  # of any kind: the verdict names the edits that were not judged
+        record.fault(f"a worker FAILED at {crate}: {fault!r}")
 
+
+def try_all(todo, given, record):
+    """Tries the edits of (crate, edits) pairs, longest first, a copy for each worker."""
+    waiting = queue.Queue()
+    for pair in sorted(todo, key=lambda pair: -weight(*pair)):
+        waiting.put(pair)
     with tempfile.TemporaryDirectory() as room:
-        folders = [os.path.join(room, str(number)) for number in range(min(os.cpu_count() or 1, 4))]
-        workers = []
-        for folder in folders:
-            os.mkdir(folder)
-            workers.append(threading.Thread(target=work, args=(folder,)))
+        copies = [os.path.join(room, str(number)) for number in range(1 if given.one else min(os.cpu_count() or 1, 4))]
+        workers = [threading.Thread(target=work, args=(copy, waiting, given, record)) for copy in copies]
         for worker in workers:
             worker.start()
         for worker in workers:
             worker.join()
-    return totals
+
+
+def look(todo, record):
+    """Whether the edits of (crate, edits) pairs can be applied; gives the exit status."""
+    for crate, edits in todo:
+        for edit in edits:
+            try:
+                edited(".", crate, edit)
+            except BadEdit as bad:
+                record.fault(f"edit {name_of(crate, edit)}: FAILED: {bad}")
+    found = sum(len(edits) for _, edits in todo)
+    print(f"{found} edits found, {record.faults} failed")
+    return 0 if found and not record.faults else 1
+
+
+def words():
+    """What is asked for."""
+    parser = argparse.ArgumentParser()
+    parser.add_argument("--look", action="store_true")
+    parser.add_argument("--after-ci", action="store_true")
+    parser.add_argument("--one", action="store_true")
+    parser.add_argument("--keep", metavar="FOLDER")
+    parser.add_argument("crates", nargs="*", metavar="CRATE")
+    return parser.parse_args()
 
 
 def main():
-    after_ci = sys.argv[1:2] == ["--after-ci"]
-    wanted = sys.argv[2 if after_ci else 1:] or crates()
-    printing = threading.Lock()
-
-    def say(text):
-        with printing:
-            print(text, flush=True)
-
-    of_names = read_logs(wanted, say) if after_ci else 0
-    todo = [(crate, edits_of(crate, after_ci)) for crate in wanted]
-    passed, failed = try_all([pair for pair in todo if pair[1]], say)
-    failed += of_names
-    if passed + failed == 0:
-        failed = 1
-    print(f"{passed} passed, {failed} failed")
-    return 1 if failed else 0
+    given, record = words(), Record()
+    wanted = sorted(set(given.crates or crates()))
+    todo = [(crate, by_rt(crate) + further(crate)) for crate in wanted]
+    for stray in strays():
+        record.fault(f"{stray}: FAILED: nothing tries it")
+    if given.look:
+        return look(todo, record)
+    try_all([pair for pair in todo if pair[1]], given, record)
+    return record.verdict([name_of(crate, edit) for crate, edits in todo for edit in edits])
 
 
 if __name__ == "__main__":
