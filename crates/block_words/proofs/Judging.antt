@@ -31,7 +31,7 @@ good-step false t = refl
 
 -- what is found of a pair has the number of its soundness
 pub step-number : (ws : List ℕ) (t : Tally) → stepNumber (stepOf t ws) ≡ soundNumber (soundnessOf (follows t (pairAt ws (t .next))))
-step-number ws t = by (follows t (pairAt ws (t .next))) (λ e. rw e) (λ e. rw e)
+step-number ws t = by (follows t (pairAt ws (t .next))) (λ e. rw e (omega arith)) (λ e. rw e (omega arith))
 
 -- a pair comes behind a tally
 module _ (ws : List ℕ) (n : ℕ) (t : Tally) (s : Standing ws n t) (k : t .next < n) (v : Step) (ev : v ≡ stepOf t ws) where

@@ -3,6 +3,7 @@ use Prim.Native.Nat.{ℕ, _*_, _/_, _≤_, _<_}
 use mathlib.Core.Bool.{Bool, true, false, not, cond}
 use mathlib.Core.List.{List}
 use mathlib.Core.Path.{_≡_, sym, _∙_, ap, subst}
+use native.Mathlib.Omega.{arith}
 use lib.Dec.{leb}
 use lib.ListN.{length, drop}
 use borrow.Author.Tests.{le-leb, lt-leb, leb-true}
@@ -67,7 +68,7 @@ pub verdict-number : (arena : Arena) (ws : List ℕ) (n : ℕ) (bytes : Size) (a
     ≡ soundNumber (soundnessOf (soundTable (arena .base .0) (arena .limit .0) (arena .align .0) ws n (bytes .0)))
 unfolding surveyOf
 verdict-number arena ws n bytes aim =
-    by (soundTable (arena .base .0) (arena .limit .0) (arena .align .0) ws n (bytes .0)) (λ e. rw e) (λ e. rw e)
+    by (soundTable (arena .base .0) (arena .limit .0) (arena .align .0) ws n (bytes .0)) (λ e. rw e (omega arith)) (λ e. rw e (omega arith))
 
 -- the whole
 module _ (arena : Arena) (ws : List ℕ) (n : ℕ) (bytes : Size) (aim : Aim) (z : Soundness) (ez : z ≡ soundnessOf (tidy ws n)) where

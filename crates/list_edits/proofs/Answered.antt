@@ -1,13 +1,13 @@
 -- What an answer of `put_at` or of `cut_out` says of the list and of its words. Assumes nothing.
 use Prim.Native.Nat.{ℕ}
-use mathlib.Core.Bool.{Bool, true, false}
+use mathlib.Core.Bool.{Bool, true, false, cond}
 use mathlib.Core.List.{List}
 use mathlib.Core.Path.{_≡_, refl}
 use native.Mathlib.Omega.{arith}
 use Rattle.units.specs.declared.Range as units
 use Rattle.model.specs.Marks.{Range, struct}
 use Rattle.list_words.specs.declared.Chain.{Chain}
-use Rattle.list_edits.specs.Chains.{chainOf, edited}
+use Rattle.list_edits.specs.Chains.{chainOf, editedNumber, edited}
 use Rattle.list_edits.specs.declared.Edited.{Edited}
 
 -- an edit that was done
@@ -17,6 +17,11 @@ pub record Did (bad : Bool) (d e : Chain) (r x : units.Range) : Type 0 where
   pub range : x ≡ r
 
 module _ (new : List Range) (r : Range) where
+  -- what is refused is 1
+  pub edited-number : (bad : Bool) → editedNumber (edited bad new r) ≡ cond bad 1 0
+  edited-number true = omega arith
+  edited-number false = omega arith
+
   pub edited-refused : (bad : Bool) → edited bad new r ≡ Edited.Refused → bad ≡ true
   edited-refused true e = refl
   edited-refused false e = let z : _≡_ {A = ℕ} 0 1 = cc in absurd (omega arith)
