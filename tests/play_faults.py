@@ -212,6 +212,7 @@ def stand_in(folder, status):
 
 
 def main():
+    signal.alarm(100)  # a case that hangs fails
     usual, failed, passed = os.environ["PATH"], 0, 0
     with tempfile.TemporaryDirectory() as folder:
         shim = os.path.join(folder, "faults.so")
