@@ -7,7 +7,7 @@ use Rattle.script.proofs.Script.end.Statement.{statement}
 use Rattle.script.proofs.Script.end.Tie as tie
 
 returns : tie.Need-returns
-returns c = let x = c .before .before .before .args in ends-none (x .self) _ (end-short (x .self) (now (x .out)) (c .if1 .taken))
+returns c = let x = c .before .before .before .args in ends-none (x .self) _ (end-short (x .self) (now (x .out)) (omega arith))
 
 begun-requires : tie.Need-begun-requires
 begun-requires c κs = search needs
