@@ -156,48 +156,48 @@ static inline lg_range list_put(lg_list_land *land, uint64_t *words, node below,
 
 lg_list_changed c_list_insert(lg_list_land land, uint64_t *words, size_t n, lg_range r) {
     if (!list_set_up_ok(&land, n))
-        return (lg_list_changed){land, LG_SET_UP, {0, 0}};
+        return (lg_list_changed){land, LG_ANSWER_SET_UP, {0, 0}};
     list_walk w = walk_from_head(&land, words);
     node below = {0, 0, 0}, above = {0, 0, 0};
     while (w.at != 0 && w.at < r.base)
         if (!step(&w, &below))
-            return (lg_list_changed){land, LG_DAMAGED, {0, 0}};
+            return (lg_list_changed){land, LG_ANSWER_DAMAGED, {0, 0}};
     if (w.at != 0 && !step(&w, &above))
-        return (lg_list_changed){land, LG_DAMAGED, {0, 0}};
+        return (lg_list_changed){land, LG_ANSWER_DAMAGED, {0, 0}};
     if (!rest_ok(&w, &land))
-        return (lg_list_changed){land, LG_DAMAGED, {0, 0}};
+        return (lg_list_changed){land, LG_ANSWER_DAMAGED, {0, 0}};
     if (!range_ok(land.base, land.limit, land.align, r))
-        return (lg_list_changed){land, LG_REQUEST, {0, 0}};
+        return (lg_list_changed){land, LG_ANSWER_REQUEST, {0, 0}};
     if (list_overlaps(below, above, r))
-        return (lg_list_changed){land, LG_OVERLAP, {0, 0}};
+        return (lg_list_changed){land, LG_ANSWER_OVERLAP, {0, 0}};
     lg_range all = list_put(&land, words, below, above, r);
-    return (lg_list_changed){land, LG_OK, all};
+    return (lg_list_changed){land, LG_ANSWER_OK, all};
 }
 
 lg_list_changed c_list_delete(lg_list_land land, uint64_t *words, size_t n, lg_range r) {
     if (!list_set_up_ok(&land, n))
-        return (lg_list_changed){land, LG_SET_UP, {0, 0}};
+        return (lg_list_changed){land, LG_ANSWER_SET_UP, {0, 0}};
     list_walk w = walk_from_head(&land, words);
     node met = {0, 0, 0};
     uint64_t below = 0;
     while (w.at != 0 && w.at <= r.base) {
         below = met.base;
         if (!step(&w, &met))
-            return (lg_list_changed){land, LG_DAMAGED, {0, 0}};
+            return (lg_list_changed){land, LG_ANSWER_DAMAGED, {0, 0}};
     }
     if (!rest_ok(&w, &land))
-        return (lg_list_changed){land, LG_DAMAGED, {0, 0}};
+        return (lg_list_changed){land, LG_ANSWER_DAMAGED, {0, 0}};
     if (!range_ok(land.base, land.limit, land.align, r))
-        return (lg_list_changed){land, LG_REQUEST, {0, 0}};
+        return (lg_list_changed){land, LG_ANSWER_REQUEST, {0, 0}};
     if (r.limit > met.limit)
-        return (lg_list_changed){land, LG_OVERLAP, {0, 0}};
+        return (lg_list_changed){land, LG_ANSWER_OVERLAP, {0, 0}};
     list_take(&land, words, below, met, r);
-    return (lg_list_changed){land, LG_OK, {met.base, met.limit}};
+    return (lg_list_changed){land, LG_ANSWER_OK, {met.base, met.limit}};
 }
 
 lg_list_found c_list_find_first(lg_list_land land, uint64_t *words, size_t n, uint64_t size, uint64_t mode) {
     if (!list_set_up_ok(&land, n))
-        return (lg_list_found){land, LG_SET_UP, {0, 0}, {0, 0}};
+        return (lg_list_found){land, LG_ANSWER_SET_UP, {0, 0}, {0, 0}};
     list_walk w = walk_from_head(&land, words);
     node met = {0, 0, 0};
     uint64_t below = 0;
@@ -205,19 +205,19 @@ lg_list_found c_list_find_first(lg_list_land land, uint64_t *words, size_t n, ui
     while (w.at != 0 && !found) {
         below = met.base;
         if (!step(&w, &met))
-            return (lg_list_found){land, LG_DAMAGED, {0, 0}, {0, 0}};
+            return (lg_list_found){land, LG_ANSWER_DAMAGED, {0, 0}, {0, 0}};
         found = met.limit - met.base >= size;
     }
     if (!rest_ok(&w, &land))
-        return (lg_list_found){land, LG_DAMAGED, {0, 0}, {0, 0}};
+        return (lg_list_found){land, LG_ANSWER_DAMAGED, {0, 0}, {0, 0}};
     if (!find_ok(land.align, size, mode))
-        return (lg_list_found){land, LG_REQUEST, {0, 0}, {0, 0}};
+        return (lg_list_found){land, LG_ANSWER_REQUEST, {0, 0}, {0, 0}};
     if (!found)
-        return (lg_list_found){land, LG_NONE, {0, 0}, {0, 0}};
+        return (lg_list_found){land, LG_ANSWER_NONE, {0, 0}, {0, 0}};
     lg_range old = {met.base, met.limit}, taken = part(old, size, mode);
     if (mode != LG_MODE_NONE)
         list_take(&land, words, below, met, taken);
-    return (lg_list_found){land, LG_OK, taken, old};
+    return (lg_list_found){land, LG_ANSWER_OK, taken, old};
 }
 
 /* Block land. */
@@ -319,69 +319,69 @@ static inline int block_put(lg_block_land *land, uint64_t *nodes, size_t m, size
 
 lg_block_changed c_block_insert(lg_block_land land, uint64_t *nodes, size_t m, lg_range r) {
     if (!block_set_up_ok(&land, m))
-        return (lg_block_changed){land, LG_SET_UP, {0, 0}};
+        return (lg_block_changed){land, LG_ANSWER_SET_UP, {0, 0}};
     if (land.ranges > m / 2)
-        return (lg_block_changed){land, LG_DAMAGED, {0, 0}};
+        return (lg_block_changed){land, LG_ANSWER_DAMAGED, {0, 0}};
     table_scan s = scan_from_first(&land, nodes);
     while (s.at != s.end && s.at[0] < r.base)
         if (!scan_pair(&s))
-            return (lg_block_changed){land, LG_DAMAGED, {0, 0}};
+            return (lg_block_changed){land, LG_ANSWER_DAMAGED, {0, 0}};
     size_t i = (size_t)(s.at - nodes) / 2;
     if (!table_ok(&s, &land, nodes, m))
-        return (lg_block_changed){land, LG_DAMAGED, {0, 0}};
+        return (lg_block_changed){land, LG_ANSWER_DAMAGED, {0, 0}};
     if (!range_ok(land.base, land.limit, land.align, r))
-        return (lg_block_changed){land, LG_REQUEST, {0, 0}};
+        return (lg_block_changed){land, LG_ANSWER_REQUEST, {0, 0}};
     if (table_overlaps(&land, nodes, i, r))
-        return (lg_block_changed){land, LG_OVERLAP, {0, 0}};
+        return (lg_block_changed){land, LG_ANSWER_OVERLAP, {0, 0}};
     lg_range all;
     if (!block_put(&land, nodes, m, i, r, &all))
-        return (lg_block_changed){land, LG_FULL, {0, 0}};
-    return (lg_block_changed){land, LG_OK, all};
+        return (lg_block_changed){land, LG_ANSWER_FULL, {0, 0}};
+    return (lg_block_changed){land, LG_ANSWER_OK, all};
 }
 
 lg_block_changed c_block_delete(lg_block_land land, uint64_t *nodes, size_t m, lg_range r) {
     if (!block_set_up_ok(&land, m))
-        return (lg_block_changed){land, LG_SET_UP, {0, 0}};
+        return (lg_block_changed){land, LG_ANSWER_SET_UP, {0, 0}};
     if (land.ranges > m / 2)
-        return (lg_block_changed){land, LG_DAMAGED, {0, 0}};
+        return (lg_block_changed){land, LG_ANSWER_DAMAGED, {0, 0}};
     table_scan s = scan_from_first(&land, nodes);
     while (s.at != s.end && s.at[0] <= r.base)
         if (!scan_pair(&s))
-            return (lg_block_changed){land, LG_DAMAGED, {0, 0}};
+            return (lg_block_changed){land, LG_ANSWER_DAMAGED, {0, 0}};
     size_t behind = (size_t)(s.at - nodes) / 2;
     if (!table_ok(&s, &land, nodes, m))
-        return (lg_block_changed){land, LG_DAMAGED, {0, 0}};
+        return (lg_block_changed){land, LG_ANSWER_DAMAGED, {0, 0}};
     if (!range_ok(land.base, land.limit, land.align, r))
-        return (lg_block_changed){land, LG_REQUEST, {0, 0}};
+        return (lg_block_changed){land, LG_ANSWER_REQUEST, {0, 0}};
     if (behind == 0 || nodes[2 * behind - 1] < r.limit)
-        return (lg_block_changed){land, LG_OVERLAP, {0, 0}};
+        return (lg_block_changed){land, LG_ANSWER_OVERLAP, {0, 0}};
     lg_range old = {nodes[2 * behind - 2], nodes[2 * behind - 1]};
     if (old.base < r.base && r.limit < old.limit && land.ranges == m / 2)
-        return (lg_block_changed){land, LG_FULL, {0, 0}};
+        return (lg_block_changed){land, LG_ANSWER_FULL, {0, 0}};
     block_take(&land, nodes, behind - 1, old, r);
-    return (lg_block_changed){land, LG_OK, old};
+    return (lg_block_changed){land, LG_ANSWER_OK, old};
 }
 
 lg_block_found c_block_find_first(lg_block_land land, uint64_t *nodes, size_t m, uint64_t size, uint64_t mode) {
     if (!block_set_up_ok(&land, m))
-        return (lg_block_found){land, LG_SET_UP, {0, 0}, {0, 0}};
+        return (lg_block_found){land, LG_ANSWER_SET_UP, {0, 0}, {0, 0}};
     if (land.ranges > m / 2)
-        return (lg_block_found){land, LG_DAMAGED, {0, 0}, {0, 0}};
+        return (lg_block_found){land, LG_ANSWER_DAMAGED, {0, 0}, {0, 0}};
     table_scan s = scan_from_first(&land, nodes);
     while (s.at != s.end && s.at[1] - s.at[0] < size)
         if (!scan_pair(&s))
-            return (lg_block_found){land, LG_DAMAGED, {0, 0}, {0, 0}};
+            return (lg_block_found){land, LG_ANSWER_DAMAGED, {0, 0}, {0, 0}};
     size_t i = (size_t)(s.at - nodes) / 2;
     if (!table_ok(&s, &land, nodes, m))
-        return (lg_block_found){land, LG_DAMAGED, {0, 0}, {0, 0}};
+        return (lg_block_found){land, LG_ANSWER_DAMAGED, {0, 0}, {0, 0}};
     if (!find_ok(land.align, size, mode))
-        return (lg_block_found){land, LG_REQUEST, {0, 0}, {0, 0}};
+        return (lg_block_found){land, LG_ANSWER_REQUEST, {0, 0}, {0, 0}};
     if (i == land.ranges)
-        return (lg_block_found){land, LG_NONE, {0, 0}, {0, 0}};
+        return (lg_block_found){land, LG_ANSWER_NONE, {0, 0}, {0, 0}};
     lg_range old = {nodes[2 * i], nodes[2 * i + 1]}, taken = part(old, size, mode);
     if (mode != LG_MODE_NONE)
         block_take(&land, nodes, i, old, taken);
-    return (lg_block_found){land, LG_OK, taken, old};
+    return (lg_block_found){land, LG_ANSWER_OK, taken, old};
 }
 
 /* Pair. */
@@ -516,23 +516,23 @@ static inline int flush(lg_pair *pair, const uint64_t *words, uint64_t *nodes, s
 
 lg_pair_changed c_pair_insert(lg_pair pair, uint64_t *words, size_t n, uint64_t *nodes, size_t m, lg_range r) {
     if (!pair_set_up_ok(&pair, n, m))
-        return (lg_pair_changed){pair, LG_SET_UP, {0, 0}};
+        return (lg_pair_changed){pair, LG_ANSWER_SET_UP, {0, 0}};
     if (pair.block.ranges > m / 2)
-        return (lg_pair_changed){pair, LG_DAMAGED, {0, 0}};
+        return (lg_pair_changed){pair, LG_ANSWER_DAMAGED, {0, 0}};
     merge g = merge_from_first(&pair, words, nodes);
     node below = {0, 0, 0}, above = {0, 0, 0};
     while (g.list.at != 0 && g.list.at < r.base)
         if (!merge_step(&g, &below))
-            return (lg_pair_changed){pair, LG_DAMAGED, {0, 0}};
+            return (lg_pair_changed){pair, LG_ANSWER_DAMAGED, {0, 0}};
     if (!scan_below(&g.table, r.base))
-        return (lg_pair_changed){pair, LG_DAMAGED, {0, 0}};
+        return (lg_pair_changed){pair, LG_ANSWER_DAMAGED, {0, 0}};
     size_t i = (size_t)(g.table.at - nodes) / 2;
     if ((g.list.at != 0 && !merge_step(&g, &above)) || !merge_ok(&g, &pair, nodes, m))
-        return (lg_pair_changed){pair, LG_DAMAGED, {0, 0}};
+        return (lg_pair_changed){pair, LG_ANSWER_DAMAGED, {0, 0}};
     if (!range_ok(pair.list.base, pair.list.limit, pair.list.align, r))
-        return (lg_pair_changed){pair, LG_REQUEST, {0, 0}};
+        return (lg_pair_changed){pair, LG_ANSWER_REQUEST, {0, 0}};
     if (list_overlaps(below, above, r) || table_overlaps(&pair.block, nodes, i, r))
-        return (lg_pair_changed){pair, LG_OVERLAP, {0, 0}};
+        return (lg_pair_changed){pair, LG_ANSWER_OVERLAP, {0, 0}};
 
     if (pair.list.head != 0 && flush(&pair, words, nodes, m, (size_t)(g.head_place - nodes) / 2)) {
         i = pairs_below(&pair.block, nodes, r.base);
@@ -544,7 +544,7 @@ lg_pair_changed c_pair_insert(lg_pair pair, uint64_t *words, size_t n, uint64_t 
     lg_range all;
     if (!block_put(&pair.block, nodes, m, i, r, &all))
         all = list_put(&pair.list, words, below, above, r);
-    return (lg_pair_changed){pair, LG_OK, all};
+    return (lg_pair_changed){pair, LG_ANSWER_OK, all};
 }
 
 /* Are all bytes of r free? `met` of the list and pair i are the last that do not begin above its base, or the first. */
@@ -571,40 +571,40 @@ static inline void hand_over(lg_pair *pair, uint64_t *words, uint64_t *nodes, si
 
 lg_pair_changed c_pair_delete(lg_pair pair, uint64_t *words, size_t n, uint64_t *nodes, size_t m, lg_range r) {
     if (!pair_set_up_ok(&pair, n, m))
-        return (lg_pair_changed){pair, LG_SET_UP, {0, 0}};
+        return (lg_pair_changed){pair, LG_ANSWER_SET_UP, {0, 0}};
     if (pair.block.ranges > m / 2)
-        return (lg_pair_changed){pair, LG_DAMAGED, {0, 0}};
+        return (lg_pair_changed){pair, LG_ANSWER_DAMAGED, {0, 0}};
     merge g = merge_from_first(&pair, words, nodes);
     node met = {0, 0, 0};
     uint64_t below = 0;
     while (g.list.at != 0 && g.list.at <= r.base) {
         below = met.base;
         if (!merge_step(&g, &met))
-            return (lg_pair_changed){pair, LG_DAMAGED, {0, 0}};
+            return (lg_pair_changed){pair, LG_ANSWER_DAMAGED, {0, 0}};
     }
     while (g.table.at != g.table.end && g.table.at[0] <= r.base)
         if (!scan_pair(&g.table))
-            return (lg_pair_changed){pair, LG_DAMAGED, {0, 0}};
+            return (lg_pair_changed){pair, LG_ANSWER_DAMAGED, {0, 0}};
     size_t behind = (size_t)(g.table.at - nodes) / 2;
     if (!merge_ok(&g, &pair, nodes, m))
-        return (lg_pair_changed){pair, LG_DAMAGED, {0, 0}};
+        return (lg_pair_changed){pair, LG_ANSWER_DAMAGED, {0, 0}};
     if (!range_ok(pair.list.base, pair.list.limit, pair.list.align, r))
-        return (lg_pair_changed){pair, LG_REQUEST, {0, 0}};
+        return (lg_pair_changed){pair, LG_ANSWER_REQUEST, {0, 0}};
     if (r.limit <= met.limit) {
         list_take(&pair.list, words, below, met, r);
-        return (lg_pair_changed){pair, LG_OK, {met.base, met.limit}};
+        return (lg_pair_changed){pair, LG_ANSWER_OK, {met.base, met.limit}};
     }
     if (behind == 0 || nodes[2 * behind - 1] < r.limit) {
         node from = met.base != 0 ? met : node_at(&pair.list, words, pair.list.head);
         int free = all_free(&pair, words, nodes, from, behind - (behind > 0), r);
-        return (lg_pair_changed){pair, free ? LG_IN_BOTH : LG_OVERLAP, {0, 0}};
+        return (lg_pair_changed){pair, free ? LG_ANSWER_IN_BOTH : LG_ANSWER_OVERLAP, {0, 0}};
     }
     lg_range old = {nodes[2 * behind - 2], nodes[2 * behind - 1]};
     if (old.base < r.base && r.limit < old.limit && pair.block.ranges == m / 2)
         hand_over(&pair, words, nodes, behind - 1, met, r);
     else
         block_take(&pair.block, nodes, behind - 1, old, r);
-    return (lg_pair_changed){pair, LG_OK, old};
+    return (lg_pair_changed){pair, LG_ANSWER_OK, old};
 }
 
 /* Where a find came to rest: in a range of the list, at a pair, or nowhere. */
@@ -648,22 +648,22 @@ static inline int merge_shorter(merge *g, uint64_t size, found_place *f) {
 lg_pair_found c_pair_find_first(lg_pair pair, uint64_t *words, size_t n, uint64_t *nodes, size_t m, uint64_t size,
                                 uint64_t mode) {
     if (!pair_set_up_ok(&pair, n, m))
-        return (lg_pair_found){pair, LG_SET_UP, {0, 0}, {0, 0}};
+        return (lg_pair_found){pair, LG_ANSWER_SET_UP, {0, 0}, {0, 0}};
     if (pair.block.ranges > m / 2)
-        return (lg_pair_found){pair, LG_DAMAGED, {0, 0}, {0, 0}};
+        return (lg_pair_found){pair, LG_ANSWER_DAMAGED, {0, 0}, {0, 0}};
     merge g = merge_from_first(&pair, words, nodes);
     found_place f = {0, 0, {0, 0, 0}, NULL};
     if (!merge_shorter(&g, size, &f) || !merge_ok(&g, &pair, nodes, m))
-        return (lg_pair_found){pair, LG_DAMAGED, {0, 0}, {0, 0}};
+        return (lg_pair_found){pair, LG_ANSWER_DAMAGED, {0, 0}, {0, 0}};
     if (!find_ok(pair.list.align, size, mode))
-        return (lg_pair_found){pair, LG_REQUEST, {0, 0}, {0, 0}};
+        return (lg_pair_found){pair, LG_ANSWER_REQUEST, {0, 0}, {0, 0}};
     if (!f.in_list && f.pair == NULL)
-        return (lg_pair_found){pair, LG_NONE, {0, 0}, {0, 0}};
+        return (lg_pair_found){pair, LG_ANSWER_NONE, {0, 0}, {0, 0}};
     lg_range old = f.in_list ? (lg_range){f.met.base, f.met.limit} : (lg_range){f.pair[0], f.pair[1]};
     lg_range taken = part(old, size, mode);
     if (mode != LG_MODE_NONE && f.in_list)
         list_take(&pair.list, words, f.below, f.met, taken);
     else if (mode != LG_MODE_NONE)
         block_take(&pair.block, nodes, (size_t)(f.pair - nodes) / 2, old, taken);
-    return (lg_pair_found){pair, LG_OK, taken, old};
+    return (lg_pair_found){pair, LG_ANSWER_OK, taken, old};
 }

@@ -16,6 +16,7 @@ use Rattle.model.specs.Calls.{insert, delete, good-range}
 use Rattle.model.specs.Lists.{total, holds, holder, delete-from}
 use Rattle.model.specs.Marks as marks
 use Rattle.model.specs.Marks.{rng}
+use Rattle.model.proofs.Requests.{range-refused}
 use Rattle.model.proofs.Outcomes.{call-refused, call-accepted}
 use Rattle.model.proofs.Requests.{range-rules}
 use Rattle.model.proofs.Totals.{total-insert, total-delete, total-small}
@@ -93,7 +94,7 @@ module _ (h : BlockLand) (ws : List ℕ) (y : Range) (k : Readable h ws) where
   pub insert-4 : good-range (arenaOf h ws) (y .base .0) (y .limit .0) ≡ false → (w : Changed) → w ≡ refusedBy h 4 → Inserts w ws
   insert-4 g w e =
       refuse-change h ws (inserted h ws y) 4
-      (is-insert h ws y ∙ call-refused layout (insert b l) h ws rs (held h ws (k .good) (k .whole)) 4 refl (rw g)) w e ws refl
+      (is-insert h ws y ∙ call-refused layout (insert b l) h ws rs (held h ws (k .good) (k .whole)) 4 refl (rw (range-refused (arenaOf h ws) b l g))) w e ws refl
 
   module _ (g : good-range (arenaOf h ws) (y .base .0) (y .limit .0) ≡ true) (p : Edited) (vs : List ℕ)
       (e : (p ≡ putOf ws (h .ranges) y) × (vs ≡ putWords ws (h .ranges) y)) where
@@ -154,7 +155,7 @@ module _ (h : BlockLand) (ws : List ℕ) (y : Range) (k : Readable h ws) where
   pub delete-4 : good-range (arenaOf h ws) (y .base .0) (y .limit .0) ≡ false → (w : Changed) → w ≡ refusedBy h 4 → Deletes w ws
   delete-4 g w e =
       refuse-change h ws (deleted h ws y) 4
-      (is-delete h ws y ∙ call-refused layout (delete b l) h ws rs (held h ws (k .good) (k .whole)) 4 refl (rw g)) w e ws refl
+      (is-delete h ws y ∙ call-refused layout (delete b l) h ws rs (held h ws (k .good) (k .whole)) 4 refl (rw (range-refused (arenaOf h ws) b l g))) w e ws refl
 
   module _ (g : good-range (arenaOf h ws) (y .base .0) (y .limit .0) ≡ true) (p : Edited) (vs : List ℕ)
       (e : (p ≡ cutOf ws (h .ranges) y) × (vs ≡ cutWords ws (h .ranges) y)) where

@@ -30,6 +30,7 @@ use Rattle.model.proofs.Aiming.{picked-find}
 use Rattle.model.proofs.Bytes.{mem-from, mem-proper}
 use Rattle.model.proofs.Choosing.{choose-mem}
 use Rattle.model.proofs.Finding.{find-none, find-takes, find-full}
+use Rattle.model.proofs.Requests.{size-refused}
 use Rattle.model.proofs.Outcomes.{call-refused, call-accepted}
 use Rattle.model.proofs.Parts.{Takes, mem-stands, part-takes}
 use Rattle.model.proofs.Requests.{find-size-rules}
@@ -87,7 +88,7 @@ module _ (h : BlockLand) (ws : List ℕ) (w : Which) (n : Size) (mode : Mode) (d
   pub find-4 : good-size (arenaOf h ws) w (n .0) ≡ false → (v : Found) → v ≡ foundNone h 4 → Gives v ws
   find-4 g v e =
       refuse-find h ws (found h ws w (n .0) mode) 4
-      (is-find h ws w (n .0) mode ∙ call-refused layout (find w (n .0) mode) h ws rs (held h ws (k .good) (k .whole)) 4 refl (rw g)) v e ws refl
+      (is-find h ws w (n .0) mode ∙ call-refused layout (find w (n .0) mode) h ws rs (held h ws (k .good) (k .whole)) 4 refl (rw (size-refused (arenaOf h ws) w (n .0) g))) v e ws refl
 
   module _ (g : good-size (arenaOf h ws) w (n .0) ≡ true) where
     chosen : d .here ≡ here-of (choose w (findSize (align h) (n .0)) (tableOf h ws))

@@ -6,4 +6,5 @@ pub mod EditAnswers
 pub mod Chosen
 pub mod FindAnswers
 pub mod WalkAnswers
+pub mod RightMet
 pub mod DemandMet

@@ -1,4 +1,4 @@
--- The ways out of a walk in a sound table: 2, and the range. Assumes nothing.
+-- The ways out of a walk in a sound table: 2, and the range; and that it leaves every word. Assumes nothing.
 use Prim.Native.Nat.{ℕ, _<_}
 use mathlib.Core.Bool.{Bool, true, false}
 use mathlib.Core.List.{List}
@@ -10,26 +10,39 @@ use Rattle.units.specs.declared.Addr.{Addr}
 use Rattle.units.specs.declared.Range as units
 use Rattle.units.specs.declared.aims.Aim.{Aim}
 use Rattle.model.specs.Calls.{walk}
+use Rattle.model.specs.Layouts.{holding}
 use Rattle.model.specs.Marks.{Range, rng}
 use Rattle.model.specs.Picks.{here-of}
 use Rattle.model.specs.Steps.{next-from}
 use Rattle.model.proofs.Aiming.{picked-from}
 use Rattle.model.proofs.Best.{next-mem}
 use Rattle.model.proofs.Bytes.{mem-from}
-use Rattle.model.proofs.Finding.{walk-visits}
+use Rattle.model.proofs.Finding.{walk-visits, walk-keeps}
 use Rattle.model.proofs.Outcomes.{call-refused, call-accepted}
+use Rattle.block_words.specs.Words.{fill}
 use Rattle.block_words.specs.declared.Entry.{Entry}
+use Rattle.block_words.proofs.Filling.{fill-pairs}
 use Rattle.block_edits.proofs.Entering.{entry-here}
-use Rattle.block_land.specs.Calls.{walked, changed, refusedBy}
-use Rattle.block_land.specs.Layout.{base, limit, arenaOf, tableOf, layout}
+use Rattle.block_land.specs.Calls.{LandDone, walked, changed, refusedBy}
+use Rattle.block_land.specs.Layout.{base, limit, arenaOf, tableOf, readOf, layout}
 use Rattle.block_land.specs.Parts.{lookOf, Aimed}
 use Rattle.block_land.specs.declared.BlockLand.{BlockLand}
 use Rattle.block_land.specs.declared.Changed.{Changed}
 use Rattle.block_land.specs.declared.Look.{Look}
 use Rattle.block_land.proofs.Answers.{saw-aimed, is-walk, refuse-change}
 use Rattle.block_land.proofs.Chosen.{none-chosen, some-chosen}
-use Rattle.block_land.proofs.LayoutLaws.{held, handle-back}
+use Rattle.block_land.proofs.LayoutLaws.{reads, held, handle-back}
 use Rattle.block_land.proofs.Sound.{Fine, fine}
+
+-- the words of a walk are those that it was given
+filled-already : (h : BlockLand) (ws : List ℕ) (rs : List Range) → readOf h ws ≡ holding rs → fill rs ws ≡ ws
+filled-already h ws rs e =
+    let p = reads h ws rs e in
+    let f = fine h ws (p .good) (p .whole) in
+    rw (← p .same) (fill-pairs ws (h .ranges) (f .fits) (f .clean))
+
+pub walk-words : (h : BlockLand) (ws : List ℕ) (x : ℕ) → ws ≡ walked h ws x .words
+walk-words h ws x = sym (ap (λ (d : LandDone). d .words) (is-walk h ws x) ∙ walk-keeps layout filled-already x h ws)
 
 module _ (h : BlockLand) (ws : List ℕ) (x : Addr) (v : Look) (e : v ≡ lookOf h ws (Aim.From x)) (d : Entry) (f : v ≡ Look.Sound d) where
   abbrev r : units.Range

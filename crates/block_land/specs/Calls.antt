@@ -2,10 +2,12 @@
 use Prim.Native.Nat.{ℕ}
 use mathlib.Core.Bool.{cond}
 use mathlib.Core.List.{List, []}
+use Rattle.units.specs.Rules.{setUpNumber}
 use Rattle.units.specs.Words.{rangeOf}
 use Rattle.units.specs.declared.Mode.{Mode}
 use Rattle.units.specs.declared.Range.{Range}
 use Rattle.units.specs.declared.Which.{Which}
+use Rattle.units.specs.declared.rules.SetUp.{SetUp}
 use Rattle.model.specs.Marks.{struct}
 use Rattle.model.specs.Calls.{Outcome, insert, delete, find, walk}
 use Rattle.model.specs.Layouts.{Done}
@@ -49,7 +51,7 @@ unfoldable pub openedOf : ℕ → ℕ → ℕ → List ℕ → Opened
 openedOf b l a ws =
     cond (setUp (newLand b l a) ws)
     (record { land = newLand b l a; answer = 0 })
-    (record { land = newLand 0 0 0; answer = 5 })
+    (record { land = newLand 0 0 0; answer = setUpNumber SetUp.Bad })
 
 -- Opening sets all pair words to 0; a refused one changes no word.
 unfoldable pub openedWords : ℕ → ℕ → ℕ → List ℕ → List ℕ

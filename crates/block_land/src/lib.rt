@@ -149,7 +149,7 @@ impl BlockLand {
 
     // The isolated range of lowest base at or above `from`. Going on from each range's limit meets every range once.
     pub fn walk(self, nodes: &[u64], from: Addr) -> Changed
-        ensures { λ r. ⌜ r ≡ changed (walked self (now (nodes .entry)) (from .0)) ⌝ }
+        ensures { λ r. ⌜ (r ≡ changed (walked self (now (nodes .entry)) (from .0))) × (now (nodes .entry) ≡ walked self (now (nodes .entry)) (from .0) .words) ⌝ }
     {
         match self.look(nodes, Aim::From(from)) {
             Look::BadSetUp => refused(self, 5),

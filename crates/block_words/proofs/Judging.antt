@@ -7,9 +7,11 @@ use native.Mathlib.Omega.{arith}
 use lib.ListN.{length}
 use Rattle.units.specs.declared.Size.{Size}
 use Rattle.units.specs.declared.rules.Arena.{Arena}
-use Rattle.units.proofs.Tests.{conj}
+use Rattle.units.specs.declared.rules.Soundness.{Soundness}
+use Rattle.units.specs.Rules.{soundnessOf, soundNumber}
+use Rattle.units.proofs.Tests.{by, conj}
 use Rattle.model.specs.Marks.{plain}
-use Rattle.block_words.specs.Tallies.{pairAt, pairBits, behind, follows, onward, stepOf, verdictOf, judged, Standing}
+use Rattle.block_words.specs.Tallies.{pairAt, pairBits, behind, follows, onward, stepNumber, stepOf, verdictOf, judged, Standing}
 use Rattle.block_words.specs.declared.tally.Step.{Step}
 use Rattle.block_words.specs.declared.tally.Tally.{Tally}
 use Rattle.block_words.proofs.Pairs.{pairs-at, pairs-end}
@@ -26,6 +28,10 @@ tallyIn t (Step.Good u) = u
 good-step : (f : Bool) (t : Tally) → isGood (cond f (Step.Good t) Step.Damaged) ≡ f
 good-step true t = refl
 good-step false t = refl
+
+-- what is found of a pair has the number of its soundness
+pub step-number : (ws : List ℕ) (t : Tally) → stepNumber (stepOf t ws) ≡ soundNumber (soundnessOf (follows t (pairAt ws (t .next))))
+step-number ws t = by (follows t (pairAt ws (t .next))) (λ e. rw e) (λ e. rw e)
 
 -- a pair comes behind a tally
 module _ (ws : List ℕ) (n : ℕ) (t : Tally) (s : Standing ws n t) (k : t .next < n) (v : Step) (ev : v ≡ stepOf t ws) where
@@ -100,10 +106,10 @@ module _ (ws : List ℕ) (n : ℕ) (s : Tally) where
 
 -- the loop of `sound_on`
 module _ (a : Arena) (ws : List ℕ) (n : ℕ) (bytes : Size) (s t : Tally) (j : Along ws n s t) where
-  pub sound-broken : t .next < n → (v : Step) → v ≡ stepOf t ws → v ≡ Step.Damaged → false ≡ judged a bytes s (behind ws n (s .next))
-  sound-broken k v ev e = sym (along-broken ws n s t j k v ev e a bytes)
+  pub sound-broken : t .next < n → (v : Step) → v ≡ stepOf t ws → v ≡ Step.Damaged → Soundness.Damaged ≡ soundnessOf (judged a bytes s (behind ws n (s .next)))
+  sound-broken k v ev e = ap soundnessOf (sym (along-broken ws n s t j k v ev e a bytes))
 
-  pub sound-end : n ≤ t .next → (r : Bool) → r ≡ verdictOf a bytes t → r ≡ judged a bytes s (behind ws n (s .next))
-  sound-end k r e = e ∙ sym (ap (judged a bytes t) (pairs-end ws n (t .next) k)) ∙ j .whole a bytes
+  pub sound-end : n ≤ t .next → (r : Soundness) → r ≡ soundnessOf (verdictOf a bytes t) → r ≡ soundnessOf (judged a bytes s (behind ws n (s .next)))
+  sound-end k r e = e ∙ ap soundnessOf (sym (ap (judged a bytes t) (pairs-end ws n (t .next) k)) ∙ j .whole a bytes)
 
 pub ruleset alongs = (along-start, along-room, along-inside, along-next, along-less, sound-broken, sound-end)

@@ -9,12 +9,15 @@ use borrow.Author.Tests.{le-leb, lt-leb, leb-true}
 use Rattle.units.specs.declared.Size.{Size}
 use Rattle.units.specs.declared.aims.Aim.{Aim}
 use Rattle.units.specs.declared.rules.Arena.{Arena}
+use Rattle.units.specs.declared.rules.Soundness.{Soundness}
 use Rattle.units.proofs.Facts.{arena-facts}
 use Rattle.units.proofs.Tests.{by, clash, and-left, and-right}
 use Rattle.units.proofs.Ways.{said-true, said-false}
+use Rattle.units.proofs.Cases.{sound-true, sound-false}
+use Rattle.units.specs.Rules.{soundnessOf, soundNumber}
 use Rattle.block_words.specs.Words.{capacity, pairs, clear, soundTable}
 use Rattle.block_words.specs.Tallies.{Ready, behind, startOf, judged, Standing}
-use Rattle.block_words.specs.Surveys.{entryOf, SoughtBy, tidy, Stood, verdictBy, surveyOf}
+use Rattle.block_words.specs.Surveys.{entryOf, SoughtBy, tidy, Stood, verdictBy, verdictNumber, surveyOf}
 use Rattle.block_words.specs.declared.Entry.{Entry}
 use Rattle.block_words.specs.declared.Verdict.{Verdict}
 use Rattle.block_words.specs.declared.seeks.Sought.{Sought}
@@ -24,17 +27,21 @@ use Rattle.block_words.proofs.Sound.{sound-facts, sound-pairs}
 
 -- room, and zeros behind
 module _ (ws : List ℕ) (n : ℕ) where
-  pub tidy-few : length ws / 2 < n → false ≡ tidy ws n
+  pub tidy-few : length ws / 2 < n → Soundness.Damaged ≡ soundnessOf (tidy ws n)
   tidy-few k = rw (lt-leb n (capacity ws) k)
 
-  pub tidy-zeros : n ≤ length ws / 2 → (z : Bool) → z ≡ clear (drop (2 * n) ws) → z ≡ tidy ws n
-  tidy-zeros k z e = rw (le-leb n (capacity ws) k) e
+  module _ (k : n ≤ length ws / 2) (z : Bool) (e : z ≡ clear (drop (2 * n) ws)) where
+    pub tidy-dirty : not z ≡ true → Soundness.Damaged ≡ soundnessOf (tidy ws n)
+    tidy-dirty f = rw (le-leb n (capacity ws) k, said-false z (clear (drop (2 * n) ws)) e f)
 
-pub ruleset tidies = (tidy-few, tidy-zeros)
+    pub tidy-zeros : not z ≡ false → Soundness.Sound ≡ soundnessOf (tidy ws n)
+    tidy-zeros f = rw (le-leb n (capacity ws) k, said-true z (clear (drop (2 * n) ws)) e f)
 
-pub survey-fits : (ws : List ℕ) (n : ℕ) (z : Bool) → z ≡ tidy ws n → not z ≡ false → n ≤ length ws / 2
+pub ruleset tidies = (tidy-few, tidy-dirty, tidy-zeros)
+
+pub survey-fits : (ws : List ℕ) (n : ℕ) (z : Soundness) → z ≡ soundnessOf (tidy ws n) → z ≡ Soundness.Sound → n ≤ length ws / 2
 survey-fits ws n z ez f =
-    leb-true n (capacity ws) (and-left (leb n (capacity ws)) (clear (drop (2 * n) ws)) (said-true z (tidy ws n) ez f))
+    leb-true n (capacity ws) (and-left (leb n (capacity ws)) (clear (drop (2 * n) ws)) (sound-true (tidy ws n) z ez f))
 
 -- what is found from what was sought
 module _ (arena : Arena) (ws : List ℕ) (n : ℕ) (bytes : Size) (q : Sought) where
@@ -45,17 +52,25 @@ module _ (arena : Arena) (ws : List ℕ) (n : ℕ) (bytes : Size) (q : Sought) w
     pub verdict-standing : Stood ws n q → Standing ws n t
     verdict-standing s = subst (Stood ws n) eq s
 
-    module _ (r : Bool) (er : r ≡ judged arena bytes t (behind ws n (t .next))) where
-      pub verdict-sound : r ≡ true → Verdict.Sound e ≡ verdictBy arena ws n bytes q
-      verdict-sound f = rw (eq, sym er ∙ f)
+    module _ (r : Soundness) (er : r ≡ soundnessOf (judged arena bytes t (behind ws n (t .next)))) where
+      pub verdict-sound : r ≡ Soundness.Sound → Verdict.Sound e ≡ verdictBy arena ws n bytes q
+      verdict-sound f = rw (eq, sound-true (judged arena bytes t (behind ws n (t .next))) r er f)
 
-      pub verdict-damaged : r ≡ false → Verdict.Damaged ≡ verdictBy arena ws n bytes q
-      verdict-damaged f = rw (eq, sym er ∙ f)
+      pub verdict-damaged : r ≡ Soundness.Damaged → Verdict.Damaged ≡ verdictBy arena ws n bytes q
+      verdict-damaged f = rw (eq, sound-false (judged arena bytes t (behind ws n (t .next))) r er f)
 
 pub ruleset verdict-ways = (verdict-broken, verdict-standing, verdict-sound, verdict-damaged)
 
+-- what a scan finds has the number of the table's soundness
+pub verdict-number : (arena : Arena) (ws : List ℕ) (n : ℕ) (bytes : Size) (aim : Aim) →
+    verdictNumber (surveyOf arena ws n bytes aim)
+    ≡ soundNumber (soundnessOf (soundTable (arena .base .0) (arena .limit .0) (arena .align .0) ws n (bytes .0)))
+unfolding surveyOf
+verdict-number arena ws n bytes aim =
+    by (soundTable (arena .base .0) (arena .limit .0) (arena .align .0) ws n (bytes .0)) (λ e. rw e) (λ e. rw e)
+
 -- the whole
-module _ (arena : Arena) (ws : List ℕ) (n : ℕ) (bytes : Size) (aim : Aim) (z : Bool) (ez : z ≡ tidy ws n) where
+module _ (arena : Arena) (ws : List ℕ) (n : ℕ) (bytes : Size) (aim : Aim) (z : Soundness) (ez : z ≡ soundnessOf (tidy ws n)) where
   abbrev isSound : Bool
   isSound = soundTable (arena .base .0) (arena .limit .0) (arena .align .0) ws n (bytes .0)
 
@@ -63,17 +78,17 @@ module _ (arena : Arena) (ws : List ℕ) (n : ℕ) (bytes : Size) (aim : Aim) (z
   unfolding surveyOf
   damaged e = rw e
 
-  pub survey-untidy : not z ≡ true → Verdict.Damaged ≡ surveyOf arena ws n bytes aim
+  pub survey-untidy : z ≡ Soundness.Damaged → Verdict.Damaged ≡ surveyOf arena ws n bytes aim
   survey-untidy f =
       damaged (by isSound
       (λ e. let s = sound-facts (arena .base .0) (arena .limit .0) (arena .align .0) ws n (bytes .0) e in
       let t : tidy ws n ≡ true = rw (le-leb n (capacity ws) (s .fits), s .clean) in
-      clash t (said-false z (tidy ws n) ez f))
+      clash t (sound-false (tidy ws n) z ez f))
       (λ e. e))
 
-  module _ (f : not z ≡ false) where
+  module _ (f : z ≡ Soundness.Sound) where
     is-tidy : tidy ws n ≡ true
-    is-tidy = said-true z (tidy ws n) ez f
+    is-tidy = sound-true (tidy ws n) z ez f
 
     module _ (ready : Ready arena) where
       -- the pairs decide

@@ -8,13 +8,14 @@ use lib.Bits.{bitOr}
 use lib.Dec.{eqb, ltb, leb}
 use lib.ListN.{getD}
 use borrow.Author.Tests.{eq-eqb, ne-eqb, eqb-true, eqb-false, ltb-true, ltb-false, leb-true, leb-false, lt-ltb, le-ltb, le-leb, lt-leb}
-use Rattle.units.specs.Rules.{multiple, goodAlign}
+use Rattle.units.specs.Rules.{multiple, goodAlign, soundnessOf}
 use Rattle.units.specs.Words.{rangeOf}
 use Rattle.units.specs.declared.Addr.{Addr}
 use Rattle.units.specs.declared.Align.{Align}
 use Rattle.units.specs.declared.Range.{Range}
 use Rattle.units.specs.declared.Size.{Size}
 use Rattle.units.specs.declared.rules.Arena.{Arena}
+use Rattle.units.specs.declared.rules.Soundness.{Soundness}
 use Rattle.units.proofs.Tests.{by}
 use Rattle.units.proofs.Alignments.{align-positive}
 use Rattle.units.proofs.Ways.{said-true, said-false}
@@ -87,23 +88,29 @@ eqb-sym : (x y : ℕ) → eqb x y ≡ eqb y x
 eqb-sym x y = by (eqb x y) (λ e. e ∙ sym (eq-eqb y x (sym (eqb-true x y e)))) (λ e. e ∙ sym (ne-eqb y x (λ z. eqb-false x y e (sym z))))
 
 module _ (arena : Arena) (bytes : Size) (t : Tally) (h : Bool) (eh : h ≡ ltb (arena .limit .0) (t .past .0)) where
-  pub verdict-high : h ≡ true → false ≡ verdictOf arena bytes t
+  pub verdict-high : h ≡ true → Soundness.Damaged ≡ soundnessOf (verdictOf arena bytes t)
   verdict-high f = rw (lt-leb (t .past .0) (arena .limit .0) (ltb-true (arena .limit .0) (t .past .0) (sym eh ∙ f)))
 
-  module _ (a : Align) (ea : a .0 ≡ arena .align .0) (x : Addr) (ex : x .0 ≡ t .bits) (m : Bool) (em : m ≡ multiple (a .0) (x .0)) where
+  module _ (a : Align) (ea : a .0 ≡ arena .align .0) (m : Bool) (em : m ≡ multiple (a .0) (t .bits)) where
     aligned : m ≡ multiple (arena .align .0) (t .bits)
-    aligned = em ∙ ap₂ multiple ea ex
+    aligned = em ∙ ap (λ (n : ℕ). multiple n (t .bits)) ea
 
-    pub verdict-odd : not m ≡ true → false ≡ verdictOf arena bytes t
+    pub verdict-odd : not m ≡ true → Soundness.Damaged ≡ soundnessOf (verdictOf arena bytes t)
     verdict-odd f = rw (said-false m (multiple (arena .align .0) (t .bits)) aligned f, and-false (leb (t .past .0) (arena .limit .0)))
 
-    module _ (u : Bool) (eu : u ≡ eqb (t .bytes .0) (bytes .0)) where
-      pub verdict-bytes : h ≡ false → not m ≡ false → u ≡ verdictOf arena bytes t
-      verdict-bytes fh fm =
+    module _ (u : Bool) (eu : u ≡ eqb (t .bytes .0) (bytes .0)) (fh : h ≡ false) (fm : not m ≡ false) where
+      verdict-is : u ≡ verdictOf arena bytes t
+      verdict-is =
           rw (
             le-leb (t .past .0) (arena .limit .0) (ltb-false (arena .limit .0) (t .past .0) (sym eh ∙ fh)),
             said-true m (multiple (arena .align .0) (t .bits)) aligned fm,
           ) (eu ∙ eqb-sym (t .bytes .0) (bytes .0))
+
+      pub verdict-bytes : not u ≡ true → Soundness.Damaged ≡ soundnessOf (verdictOf arena bytes t)
+      verdict-bytes f = rw (said-false u (verdictOf arena bytes t) verdict-is f)
+
+      pub verdict-good : not u ≡ false → Soundness.Sound ≡ soundnessOf (verdictOf arena bytes t)
+      verdict-good f = rw (said-true u (verdictOf arena bytes t) verdict-is f)
 
 module _ (arena : Arena) (g : Ready arena) where
   pub verdict-align : goodAlign (arena .align .0) ≡ true
@@ -112,4 +119,4 @@ module _ (arena : Arena) (g : Ready arena) where
   pub verdict-positive : (a : Align) → a .0 ≡ arena .align .0 → 0 < a .0
   verdict-positive a e = rw e (align-positive (arena .align .0) verdict-align)
 
-pub ruleset verdicts = (verdict-high, verdict-odd, verdict-bytes, verdict-align, verdict-positive)
+pub ruleset verdicts = (verdict-high, verdict-odd, verdict-bytes, verdict-good, verdict-align, verdict-positive)

@@ -61,6 +61,11 @@ abbrev pub verdictBy : Arena → List ℕ → ℕ → Size → Sought → Verdic
 verdictBy a ws n bytes Sought.Broken = Verdict.Damaged
 verdictBy a ws n bytes (Sought.At e t) = cond (judged a bytes t (behind ws n (t .next))) (Verdict.Sound e) Verdict.Damaged
 
+-- Document 01's number of what a scan of the whole table finds: 6, or 0.
+abbrev pub verdictNumber : Verdict → ℕ
+verdictNumber Verdict.Damaged = 6
+verdictNumber (Verdict.Sound e) = 0
+
 -- What a scan of the whole table finds, where the handle has n ranges and this many bytes.
 unfoldable pub surveyOf : Arena → List ℕ → ℕ → Size → Aim → Verdict
 surveyOf a ws n bytes aim =

@@ -54,6 +54,11 @@ onward t bits r = record {
   bytes = record { 0 = t .bytes .0 + length-of r };
 }
 
+-- Document 01's number of what a scan finds of one pair: 6, or 0.
+abbrev pub stepNumber : Step → ℕ
+stepNumber Step.Damaged = 6
+stepNumber (Step.Good t) = 0
+
 -- What a scan finds of the pair that comes.
 abbrev pub stepOf : Tally → List ℕ → Step
 stepOf t ws =

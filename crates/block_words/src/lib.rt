@@ -11,11 +11,13 @@ use units::Aim;
 use units::Arena;
 use units::Range;
 use units::Size;
+use units::Soundness;
 use units::Which;
 ghost use mathlib.Core.Path.{_≡_};
 ghost use Prim.Native.Nat.{_+_, _*_, _/_, _≤_, _<_};
 ghost use lib.ListN.{length, drop};
 ghost use Rattle.units.specs.declared.aims.Aim.{Aim};
+ghost use Rattle.units.specs.Rules.{soundnessOf};
 ghost use Rattle.block_words.specs.Words.{clear};
 ghost use Rattle.block_words.specs.Tallies.{pairAt, pairBits, fourBits, Ready};
 ghost use Rattle.block_words.specs.Surveys.{tidy, Stood, verdictBy, surveyOf};
@@ -98,14 +100,17 @@ fn is_zero(words: &[u64], n: usize) -> bool
 }
 
 // Whether there is room for so many ranges, and every pair word behind them is 0.
-fn is_tidy(words: &[u64], ranges: u64) -> bool
-    ensures { λ r. ⌜ r ≡ tidy (now (words .entry)) ranges ⌝ }
+fn tidy(words: &[u64], ranges: u64) -> Soundness
+    ensures { λ r. ⌜ r ≡ soundnessOf (tidy (now (words .entry)) ranges) ⌝ }
 {
     let m = words.len() / 2;
     if (m as u64) < ranges {
-        return false;
+        return Soundness::Damaged;
     }
-    is_zero(words, ranges as usize)
+    if !is_zero(words, ranges as usize) {
+        return Soundness::Damaged;
+    }
+    Soundness::Sound
 }
 
 // What is found of the first n pairs, by the scan on from what was sought.
@@ -119,10 +124,10 @@ fn conclude(arena: Arena, words: &[u64], n: usize, bytes: Size, sought: Sought) 
     };
     let entry = e;
     let tally = t;
-    if tally.sound_on(arena, words, n, bytes) {
-        return Verdict::Sound(entry);
-    }
-    Verdict::Damaged
+    let Soundness::Sound = tally.sound_on(arena, words, n, bytes) else {
+        return Verdict::Damaged;
+    };
+    Verdict::Sound(entry)
 }
 
 // The one scan over the whole table: of the zeros behind as many pairs as the handle says, and of these, up to the one
@@ -131,9 +136,9 @@ pub fn survey(arena: Arena, words: &[u64], ranges: u64, bytes: Size, aim: Aim) -
     requires { ⌜ Ready arena ⌝ }
     ensures { λ r. ⌜ r ≡ surveyOf arena (now (words .entry)) ranges bytes aim ⌝ }
 {
-    if !is_tidy(words, ranges) {
+    let Soundness::Sound = tidy(words, ranges) else {
         return Verdict::Damaged;
-    }
+    };
     let n = ranges as usize;
     conclude(arena, words, n, bytes, seeks::aimed(arena, words, n, aim))
 }
@@ -150,9 +155,9 @@ pub fn survey_find(
     requires { ⌜ Ready arena ⌝ }
     ensures { λ r. ⌜ r ≡ surveyOf arena (now (words .entry)) ranges bytes (Aim.Find which size) ⌝ }
 {
-    if !is_tidy(words, ranges) {
+    let Soundness::Sound = tidy(words, ranges) else {
         return Verdict::Damaged;
-    }
+    };
     let n = ranges as usize;
     conclude(
         arena,

@@ -2,9 +2,11 @@
 use units::Addr;
 use units::Arena;
 use units::Size;
+use units::Soundness;
 ghost use mathlib.Core.Path.{_≡_};
 ghost use Prim.Native.Nat.{_/_, _≤_, _<_};
 ghost use lib.ListN.{length};
+ghost use Rattle.units.specs.Rules.{soundnessOf};
 ghost use Rattle.block_words.specs.Tallies.{Ready, Standing, behind, startOf, stepOf, verdictOf, judged};
 
 // Where a scan stands: the number of pairs met, the limit of the last, all their words OR-ed, and their bytes.
@@ -66,30 +68,33 @@ impl Tally {
 
     // Whether the pairs met are good. Limits ascend, so the last alone is compared with the arena's; words OR-ed are
     // aligned exactly if each of them is.
-    fn verdict(self, arena: Arena, bytes: Size) -> bool
+    fn verdict(self, arena: Arena, bytes: Size) -> Soundness
         requires { ⌜ Ready arena ⌝ }
-        ensures { λ r. ⌜ r ≡ verdictOf arena bytes self ⌝ }
+        ensures { λ r. ⌜ r ≡ soundnessOf (verdictOf arena bytes self) ⌝ }
     {
         if arena.limit.lt(self.past) {
-            return false;
+            return Soundness::Damaged;
         }
         let align = arena.align.divisor();
-        if !Addr::new(self.bits).multiple_of(align) {
-            return false;
+        if !align.divides(self.bits) {
+            return Soundness::Damaged;
         }
-        self.bytes.same(bytes)
+        if !self.bytes.same(bytes) {
+            return Soundness::Damaged;
+        }
+        Soundness::Sound
     }
 
     // Whether the first n pairs are good, by the scan from here.
-    pub(crate) fn sound_on(self, arena: Arena, words: &[u64], n: usize, bytes: Size) -> bool
+    pub(crate) fn sound_on(self, arena: Arena, words: &[u64], n: usize, bytes: Size) -> Soundness
         requires { ⌜ Ready arena ⌝ }
         requires { ⌜ Standing (now words) n self ⌝ }
-        ensures { λ r. ⌜ r ≡ judged arena bytes self (behind (now (words .entry)) n (self .next)) ⌝ }
+        ensures { λ r. ⌜ r ≡ soundnessOf (judged arena bytes self (behind (now (words .entry)) n (self .next))) ⌝ }
     {
         let mut tally = self;
         while tally.next < n {
             let Step::Good(next) = tally.judge(words) else {
-                return false;
+                return Soundness::Damaged;
             };
             tally = next;
         }

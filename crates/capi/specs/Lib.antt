@@ -1,3 +1,4 @@
 pub mod Modes
 pub mod ListFinds
 pub mod BlockFinds
+pub mod Version

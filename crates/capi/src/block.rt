@@ -79,7 +79,7 @@ pub extern "C" fn lg_block_find_first(
 
 #[no_mangle]
 pub extern "C" fn lg_block_walk(land: BlockLand, nodes: &[u64], from: u64) -> Changed
-    ensures { λ r. ⌜ r ≡ changed (walked land (now (nodes .entry)) from) ⌝ }
+    ensures { λ r. ⌜ (r ≡ changed (walked land (now (nodes .entry)) from)) × (now (nodes .entry) ≡ walked land (now (nodes .entry)) from .words) ⌝ }
 {
     land.walk(nodes, Addr::new(from))
 }

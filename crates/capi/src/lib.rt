@@ -1,9 +1,11 @@
-// The calls for a host in C: by value, one for each call of a land but the finds of the last and the largest, and the flush.
+// The calls for a host in C: by value, one for each call of a land but the finds of the last and the largest, the flush, and the
+// version.
 //
-// Every function here is proved to equal the call that it makes, and the crate assumes nothing of its own.
+// Every function here is proved to equal the call that it makes, the version its definition. The crate assumes nothing of its own.
 pub mod block;
 pub mod list;
 pub mod modes;
+pub mod version;
 
 use block_land::BlockLand;
 use flush::Flushed;

@@ -79,7 +79,7 @@ pub extern "C" fn lg_list_find_first(
 
 #[no_mangle]
 pub extern "C" fn lg_list_walk(land: ListLand, words: &[u64], from: u64) -> Changed
-    ensures { λ r. ⌜ r ≡ changed (walked land (now (words .entry)) from) ⌝ }
+    ensures { λ r. ⌜ (r ≡ changed (walked land (now (words .entry)) from)) × (now (words .entry) ≡ walked land (now (words .entry)) from .words) ⌝ }
 {
     land.walk(words, Addr::new(from))
 }

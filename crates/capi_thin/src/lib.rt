@@ -24,7 +24,7 @@ pub extern "C" fn lg_list_delete_at(land: &mut ListLand, words: &mut [u64], rang
 
 #[no_mangle]
 pub extern "C" fn lg_list_walk_at(land: &mut ListLand, words: &[u64], from: Addr) -> Changed
-    ensures { λ r. ⌜ (r ≡ changed (walked (now (land .entry)) (now (words .entry)) (from .0))) × (now (land .exit) ≡ r .land) ⌝ }
+    ensures { λ r. ⌜ (r ≡ changed (walked (now (land .entry)) (now (words .entry)) (from .0))) × (now (land .exit) ≡ r .land) × (now (words .entry) ≡ walked (now (land .entry)) (now (words .entry)) (from .0) .words) ⌝ }
 {
     thin::walk(land, words, from)
 }

@@ -2,7 +2,7 @@
 use Prim.Native.Nat.{ℕ, suc, _+_}
 use mathlib.Core.Bool.{true}
 use mathlib.Core.List.{List}
-use mathlib.Core.Path.{_≡_, refl, sym, ap, _∙_}
+use mathlib.Core.Path.{_≡_, refl, sym, ap, subst, _∙_}
 use native.Mathlib.Omega.{arith}
 use lib.Dec.{eqb}
 use lib.ListN.{length, length-append}
@@ -25,7 +25,7 @@ use Rattle.block_land.specs.Layout as block
 use Rattle.block_land.specs.declared.BlockLand.{BlockLand}
 use Rattle.block_land.proofs.Sound as block-sound
 use Rattle.block_land.proofs.LayoutLaws.{read-filled}
-use Rattle.flush.specs.Flush.{sameArena, checkNumber, checkOf, moves, accepted, done, flushed}
+use Rattle.flush.specs.Flush.{Done, sameArena, checkNumber, checkOf, moves, accepted, done, flushed}
 use Rattle.flush.specs.declared.FlushCheck.{FlushCheck}
 use Rattle.flush.specs.Claims.{Kept, FlushKeeps}
 
@@ -185,11 +185,9 @@ module _ (h : ListLand) (ws : List ℕ) (k : BlockLand) (vs : List ℕ) (c : Che
         list-readable = rw e list-read;
         block-readable = rw e block-read;
         arena-words = lay-laid (h .base .0) left ws left-laid;
+        flushes = subst (λ (d : Done). Flushes a rs ts (record { moved = d .result .moved; stop = d .result .stop; left = left; into = into })) (sym e) f;
         moved = rw e (let m = f .moved in omega arith);
-        bytes = f .bytes;
         sum = rw e (let m = f .sum in omega arith);
-        stop-0 = rw e (f .stop-0);
-        stops = rw e (f .stops);
       }
 
 answer-of : (h : ListLand) (ws : List ℕ) (k : BlockLand) (vs : List ℕ) → flushed h ws k vs .result .answer ≡ 0 → done h ws k vs (checkOf h ws k vs) .result .answer ≡ 0

@@ -3,7 +3,7 @@ use Prim.Native.Nat.{ℕ}
 use mathlib.Core.Bool.{Bool, true, false, not}
 use mathlib.Core.List.{List, [], _∷_}
 use mathlib.Core.Logic.{⊎-elim}
-use mathlib.Core.Path.{_≡_, sym, _∙_}
+use mathlib.Core.Path.{_≡_}
 use native.Mathlib.Omega.{arith}
 use lib.Dec.{eqb}
 use types.Run.{OneOf}
@@ -31,17 +31,21 @@ use Rattle.flush.specs.declared.FlushCheck.{FlushCheck}
 
 -- ONE ARENA
 module _ (h : ListLand) (k : BlockLand) (p : Bool) (ep : p ≡ eqb (h .base .0) (k .base .0)) where
-  pub same-base : not p ≡ true → false ≡ sameArena h k
+  pub same-base : not p ≡ true → SetUp.Bad ≡ setUpOf (sameArena h k)
   same-base f = rw (← ep, not-true p f)
 
   module _ (fp : not p ≡ false) (q : Bool) (eq : q ≡ eqb (h .limit .0) (k .limit .0)) where
-    pub same-limit : not q ≡ true → false ≡ sameArena h k
+    pub same-limit : not q ≡ true → SetUp.Bad ≡ setUpOf (sameArena h k)
     same-limit f = rw (← ep, not-false p fp, ← eq, not-true q f)
 
-    pub same-align : not q ≡ false → (r : Bool) → r ≡ eqb (h .align .0) (k .align .0) → r ≡ sameArena h k
-    same-align f r er = rw (← ep, not-false p fp, ← eq, not-false q f) er
+    module _ (fq : not q ≡ false) (r : Bool) (er : r ≡ eqb (h .align .0) (k .align .0)) where
+      pub same-align : not r ≡ true → SetUp.Bad ≡ setUpOf (sameArena h k)
+      same-align f = rw (← ep, not-false p fp, ← eq, not-false q fq, ← er, not-true r f)
 
-pub ruleset same-ways = (same-base, same-limit, same-align)
+      pub same-all : not r ≡ false → SetUp.Good ≡ setUpOf (sameArena h k)
+      same-all f = rw (← ep, not-false p fp, ← eq, not-false q fq, ← er, not-false r f)
+
+pub ruleset same-ways = (same-base, same-limit, same-align, same-all)
 
 -- THE CHECKS
 module _ (h : ListLand) (ws : List ℕ) (k : BlockLand) (vs : List ℕ) (p : SetUp) (ep : p ≡ setUpOf (list.setUp h ws)) where
@@ -57,17 +61,17 @@ module _ (h : ListLand) (ws : List ℕ) (k : BlockLand) (vs : List ℕ) (p : Set
     unfolding checkOf
     check-block f = rw (list-up, set-up-false (block.setUp k vs) q eq f)
 
-    module _ (fq : q ≡ SetUp.Good) (s : Bool) (es : s ≡ sameArena h k) where
+    module _ (fq : q ≡ SetUp.Good) (s : SetUp) (es : s ≡ setUpOf (sameArena h k)) where
       block-up : block.setUp k vs ≡ true
       block-up = set-up-true (block.setUp k vs) q eq fq
 
-      pub check-differ : not s ≡ true → FlushCheck.Differ ≡ checkOf h ws k vs
+      pub check-differ : s ≡ SetUp.Bad → FlushCheck.Differ ≡ checkOf h ws k vs
       unfolding checkOf
-      check-differ f = rw (list-up, block-up, sym es ∙ not-true s f)
+      check-differ f = rw (list-up, block-up, set-up-false (sameArena h k) s es f)
 
-      module _ (fs : not s ≡ false) (v : list-look.Look) (ev : v ≡ list-parts.lookOf h ws Aim.Nothing) where
+      module _ (fs : s ≡ SetUp.Good) (v : list-look.Look) (ev : v ≡ list-parts.lookOf h ws Aim.Nothing) where
         one : sameArena h k ≡ true
-        one = sym es ∙ not-false s fs
+        one = set-up-true (sameArena h k) s es fs
 
         list-sound : (r : Spot) → v ≡ list-look.Look.Sound r → list.sound h ws ≡ true
         unfolding list-parts.lookOf

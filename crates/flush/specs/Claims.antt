@@ -1,12 +1,10 @@
 -- What an accepted flush keeps, read from the handles and words before and after. Assumes nothing.
 use Prim.Native.Nat.{ℕ, _+_}
-use mathlib.Core.Bool.{_||_}
-use mathlib.Core.List.{List, []}
-use mathlib.Core.Logic.{_⊎_, _↔_}
+use mathlib.Core.List.{List}
 use mathlib.Core.Path.{_≡_}
 use Rattle.model.specs.Marks.{Range}
-use Rattle.model.specs.Lists.{marksOf}
 use Rattle.model.specs.Layouts.{holding}
+use Rattle.model.specs.Flushing.{Flushes}
 use Rattle.list_words.specs.Laying.{lay}
 use Rattle.list_land.specs.Layout as list
 use Rattle.list_land.specs.declared.ListLand.{ListLand}
@@ -30,14 +28,13 @@ module _ (h : ListLand) (ws : List ℕ) (k : BlockLand) (vs : List ℕ) where
     pub block-readable : block.readOf (after .result .block) (after .nodes) ≡ holding block-after
     -- the arena words are those that the list land's layout asks for
     pub arena-words : lay (h .base .0) list-after ws ≡ ws
-    -- the number moved is the number of ranges that the list lost
+    -- on these ranges it did what document 01 says of a flush: the list lost its first ranges, in order, and it stopped with 0, 1 or 3
+    pub flushes :
+        Flushes (block.arenaOf k vs) list-before block-before
+        (record { moved = after .result .moved; stop = after .result .stop; left = list-after; into = block-after })
+    -- by the counts of the handles: the number moved is the number of ranges that the list lost, and no byte is lost
     pub moved : after .result .moved + after .result .list .ranges ≡ h .ranges
-    -- the bytes free in both lands together are what they were
-    pub bytes : (x : ℕ) → (marksOf list-after x || marksOf block-after x) ≡ (marksOf list-before x || marksOf block-before x)
     pub sum : after .result .list .bytes .0 + after .result .block .bytes .0 ≡ h .bytes .0 + k .bytes .0
-    -- it stops with 0 exactly if no range is left, else with 1 or 3
-    pub stop-0 : (after .result .stop ≡ 0) ↔ (list-after ≡ [])
-    pub stops : (after .result .stop ≡ 0) ⊎ ((after .result .stop ≡ 1) ⊎ (after .result .stop ≡ 3))
 
 -- Every flush that is answered 0.
 abbrev pub FlushKeeps : Type 0

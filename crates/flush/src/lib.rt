@@ -9,6 +9,7 @@ use units::SetUp;
 ghost use mathlib.Core.Path.{_≡_};
 ghost use mathlib.Core.List.{List};
 ghost use Prim.Native.Nat.{ℕ};
+ghost use Rattle.units.specs.Rules.{setUpOf};
 ghost use Rattle.flush.specs.Flush.{sameArena, refusal, checkOf, flushed};
 ghost use Rattle.flush.specs.declared.FlushCheck.the-variants.{Good};
 
@@ -45,16 +46,19 @@ fn refused(list: ListLand, block: BlockLand, answer: u64) -> Flushed
 }
 
 // Whether base, limit and alignment of the two lands are the same.
-pub fn same_arena(list: ListLand, block: BlockLand) -> bool
-    ensures { λ r. ⌜ r ≡ sameArena list block ⌝ }
+pub fn same_arena(list: ListLand, block: BlockLand) -> SetUp
+    ensures { λ r. ⌜ r ≡ setUpOf (sameArena list block) ⌝ }
 {
     if !list.base.same(block.base) {
-        return false;
+        return SetUp::Bad;
     }
     if !list.limit.same(block.limit) {
-        return false;
+        return SetUp::Bad;
     }
-    list.align.same(block.align)
+    if !list.align.same(block.align) {
+        return SetUp::Bad;
+    }
+    SetUp::Good
 }
 
 // The checks of a flush, in their order.
@@ -67,9 +71,9 @@ pub fn check(list: ListLand, words: &[u64], block: BlockLand, nodes: &[u64]) -> 
     let SetUp::Good = block.set_up(nodes) else {
         return FlushCheck::BlockSetUp;
     };
-    if !same_arena(list, block) {
+    let SetUp::Good = same_arena(list, block) else {
         return FlushCheck::Differ;
-    }
+    };
     let list_land::Look::Sound(_) = list.look(words, Aim::Nothing) else {
         return FlushCheck::ListDamaged;
     };

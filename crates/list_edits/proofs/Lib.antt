@@ -8,4 +8,5 @@ pub mod Standing
 pub mod Inserting
 pub mod Cutting
 pub mod EditWays
+pub mod Removing
 pub mod Answered

@@ -1,6 +1,6 @@
 -- A range put into a sound list at a spot, and a part taken out of the range there: what the edits of a chain give. Assumes nothing.
 use Prim.Native.Nat.{ℕ, _%_, _≤_, _<_}
-use mathlib.Core.Bool.{Bool, true, cond}
+use mathlib.Core.Bool.{Bool, true, not, cond}
 use mathlib.Core.List.{List}
 use mathlib.Core.Path.{_≡_}
 use lib.ListN.{length}
@@ -10,7 +10,7 @@ use Rattle.units.specs.declared.Range as units
 use Rattle.units.specs.declared.aims.Aim.{Aim}
 use Rattle.units.specs.declared.rules.Arena.{Arena}
 use Rattle.model.specs.Marks.{Range, struct}
-use Rattle.model.specs.Lists.{total, overlaps, holder, insert-in, delete-from}
+use Rattle.model.specs.Lists.{total, overlaps, holds, holder, insert-in, delete-from}
 use Rattle.list_words.specs.declared.Chain.{Chain}
 use Rattle.list_words.specs.declared.Spot.{Spot}
 use Rattle.list_words.specs.Words.{soundWalk}
@@ -46,10 +46,17 @@ pub record Holding (a : Arena) (ws : List ℕ) (c : Chain) (s : Spot) (y : units
 abbrev pub chainOf : List Range → Chain
 chainOf rs = record { head = addr (head-of rs); ranges = length rs; bytes = record { 0 = total rs } }
 
--- Document 01's number of each case: 1 where some byte is already free.
+-- Document 01's number of each case: 1 where some byte is already free, or is not free.
 abbrev pub editedNumber : Edited → ℕ
 editedNumber Edited.Refused = 1
 editedNumber (Edited.Done c r) = 0
+
+-- What an edit gives, and the words: refused, or the chain of the new list and the range that holds the request.
+abbrev pub edited : Bool → List Range → Range → Edited
+edited bad new r = cond bad Edited.Refused (Edited.Done (chainOf new) (struct r))
+
+abbrev pub editedWords : Bool → List Range → ℕ → List ℕ → List ℕ
+editedWords bad new base ws = cond bad ws (lay base new ws)
 
 module _ (rs : List Range) (y : units.Range) where
   -- A range put in: refused if it overlaps one; then the chain of the list with it, and the range that holds it.
@@ -57,12 +64,10 @@ module _ (rs : List Range) (y : units.Range) where
   joined = insert-in (y .base .0) (y .limit .0) rs
 
   unfoldable pub putOf : Edited
-  putOf =
-      cond (overlaps (y .base .0) (y .limit .0) rs) Edited.Refused
-      (Edited.Done (chainOf joined) (struct (holder (y .base .0) (y .limit .0) joined)))
+  putOf = edited (overlaps (y .base .0) (y .limit .0) rs) joined (holder (y .base .0) (y .limit .0) joined)
 
   unfoldable pub putWords : ℕ → List ℕ → List ℕ
-  putWords base ws = cond (overlaps (y .base .0) (y .limit .0) rs) ws (lay base joined ws)
+  putWords base ws = editedWords (overlaps (y .base .0) (y .limit .0) rs) joined base ws
 
   -- A part taken out: the chain of the list without it.
   abbrev pub remaining : List Range
@@ -73,3 +78,10 @@ module _ (rs : List Range) (y : units.Range) where
 
   abbrev pub cutWords : ℕ → List ℕ → List ℕ
   cutWords base ws = lay base remaining ws
+
+  -- A range taken out: refused if none holds it; it was in the range that did.
+  unfoldable pub cutOf : Edited
+  cutOf = edited (not (holds (y .base .0) (y .limit .0) rs)) remaining (holder (y .base .0) (y .limit .0) rs)
+
+  unfoldable pub cutOutWords : ℕ → List ℕ → List ℕ
+  cutOutWords base ws = editedWords (not (holds (y .base .0) (y .limit .0) rs)) remaining base ws

@@ -18,7 +18,7 @@ ghost use Rattle.units.specs.declared.aims.Aim.{Aim};
 ghost use Rattle.list_words.specs.Laying.{describe};
 ghost use Rattle.list_edits.specs.Edits.{Room, PieceRoom, pieceHead, pieceWords, EditRoom, storeHead, storeWords};
 ghost use Rattle.list_edits.specs.Joins.{joinEdit, Putting, joinDone};
-ghost use Rattle.list_edits.specs.Chains.{metOf, Held, mayAsk, Holding, putOf, putWords, cutChain, cutWords};
+ghost use Rattle.list_edits.specs.Chains.{metOf, Held, mayAsk, Holding, putOf, putWords, cutChain, cutWords, cutOf, cutOutWords};
 
 // What is to stand behind a range: low, then high, each if it is not empty, then the range at next.
 pub struct Edit {
@@ -42,7 +42,8 @@ pub enum Place {
     Free(Join),
 }
 
-// What a range put in gives: some byte of it is in the list already; or the chain afterwards, and the range that holds it.
+// What a range put in or taken out gives: some byte of it is in the list already, or is not in it; or the chain afterwards,
+// and the range that holds it, or held it before.
 pub enum Edited {
     Refused,
     Done(Chain, Range),
@@ -169,4 +170,21 @@ pub fn cut_at(arena: Arena, words: &mut [u64], chain: Chain, spot: Spot, part: R
         ranges,
         bytes,
     }
+}
+
+// Takes a range out of the range of a sound list that holds it, at the first range that reaches its limit.
+pub fn cut_out(arena: Arena, words: &mut [u64], chain: Chain, range: Range, spot: Spot) -> Edited
+    requires { ⌜ Held arena (now words) chain (Aim.Reach (range .limit)) spot ⌝ }
+    requires { ⌜ mayAsk arena range ≡ true ⌝ }
+    ensures { λ r. ⌜ (r ≡ cutOf (metOf arena (now (words .entry)) chain) range) × (now (words .exit) ≡ cutOutWords (metOf arena (now (words .entry)) chain) range (arena .base .0) (now (words .entry))) ⌝ }
+{
+    let here = spot.here;
+    if here.base.is_zero() {
+        return Edited::Refused;
+    }
+    if range.base.lt(here.base) {
+        return Edited::Refused;
+    }
+    let left = cut_at(arena, words, chain, spot, range);
+    Edited::Done(left, here)
 }

@@ -2,7 +2,7 @@
 use Prim.Native.Nat.{ℕ, suc, _+_, _*_, _%_, _≤_}
 use mathlib.Core.Bool.{true, not, _&&_, or-true}
 use mathlib.Core.List.{List, [], _∷_}
-use mathlib.Core.Path.{_≡_}
+use mathlib.Core.Path.{_≡_, refl}
 use native.Mathlib.Omega.{arith}
 use lib.Dec.{eqb}
 use borrow.Author.Tests.{eqb-true, eqb-false, not-true}
@@ -10,12 +10,14 @@ use Rattle.units.specs.Words.{wordNumber}
 use Rattle.units.proofs.Tests.{by, and-left, and-right, or-second}
 use Rattle.model.specs.Marks.{Range, size}
 use Rattle.model.specs.Lists.{Apart, Aligned, marksOf}
+use Rattle.model.specs.Layouts.{holding}
+use Rattle.model.specs.Lands.{LandLaws}
 use Rattle.model.proofs.Bytes.{in-yes}
 use Rattle.model.proofs.DemandMet.{demand-3}
 use Rattle.list_words.specs.Laying.{grain, described}
-use Rattle.list_land.specs.Layout.{base, setUp, layout}
+use Rattle.list_land.specs.Layout.{base, setUp, readOf, layout}
 use Rattle.list_land.specs.Calls.{newLand, openedOf}
-use Rattle.list_land.specs.Demand.{ListDemand3, HostMayWrite}
+use Rattle.list_land.specs.Demand.{ListDemand3, own-layout, OwnDemand3, HostMayWrite}
 use Rattle.list_land.proofs.Sound.{placed, fine}
 use Rattle.list_land.proofs.LayoutLaws.{reads, read-laid, list-laws}
 
@@ -26,11 +28,14 @@ opened-good b l a ws e =
     (λ g. (g, rw g))
     (λ g. let z : _≡_ {A = ℕ} 5 0 = rw g at e in absurd (omega arith))
 
+-- an opened land gives no ranges
+opened-empty : (b l a : ℕ) (ws : List ℕ) → setUp (newLand b l a) ws ≡ true → readOf (newLand b l a) ws ≡ holding []
+opened-empty b l a ws g = let h = newLand b l a in read-laid h ws [] (placed h ws g) g tt tt tt
+
 pub list-demand-3 : ListDemand3
 list-demand-3 b l a ws e cs os t =
     let g = opened-good b l a ws e in
-    let h = newLand b l a in
-    demand-3 layout list-laws h ws [] (read-laid h ws [] (placed h ws (g .0)) (g .0) tt tt tt) cs os (rw (g .1) at t)
+    demand-3 layout list-laws (newLand b l a) ws [] (opened-empty b l a ws (g .0)) cs os (rw (g .1) at t)
 
 -- a word of a descriptor is free
 described-free : (b lo hi : ℕ) (rs : List Range) (i : ℕ) → b ≤ lo → b % 8 ≡ 0 → Apart lo hi rs → Aligned 8 rs → described b rs i ≡ true →
@@ -50,3 +55,19 @@ host-may-write h ws ws' rs e n f =
     let p = reads h ws rs e in
     let g = fine h ws (p .good) (p .whole) in
     (n, λ i d. f i (described-free (base h) (base h) (h .limit .0) rs i (omega arith) (g .base8) (rw (p .same) at (g .apart)) (rw (p .same) at (g .aligned)) (rw e at d)))
+
+-- DOCUMENT 01'S OWN HOST
+own-laws : LandLaws own-layout
+own-laws = record {
+  sound = list-laws .sound;
+  read-write = list-laws .read-write;
+  arena-write = list-laws .arena-write;
+  read-host = λ h ws ws' rs e m. list-laws .read-host h ws ws' rs e (host-may-write h ws ws' rs e (m .0) (λ i f. m .1 i (rw e f)));
+  arena-host = λ h ws ws' m. refl;
+  host-idle = λ h ws. (refl, λ i f. refl);
+}
+
+pub own-demand-3 : OwnDemand3
+own-demand-3 b l a ws e cs os t =
+    let g = opened-good b l a ws e in
+    demand-3 own-layout own-laws (newLand b l a) ws [] (opened-empty b l a ws (g .0)) cs os (rw (g .1) at t)

@@ -25,6 +25,7 @@ use Rattle.model.proofs.Parts.{Takes, mem-stands, part-takes}
 use Rattle.model.proofs.Places.{apart-rest}
 use Rattle.model.proofs.Requests.{find-size-rules}
 use Rattle.model.proofs.Finding.{find-none, find-takes}
+use Rattle.model.proofs.Requests.{size-refused}
 use Rattle.model.proofs.Outcomes.{call-refused, call-accepted}
 use Rattle.finds.specs.Parts.{Within}
 use Rattle.list_words.specs.declared.Spot.{Spot}
@@ -66,7 +67,7 @@ module _ (h : ListLand) (ws : List ℕ) (w : Which) (n : Size) (mode : Mode) (s 
 
   pub find-4 : good-size (arenaOf h) w (n .0) ≡ false → (v : Found) → v ≡ foundNone h 4 → Gives v ws
   find-4 g v e =
-      refuse-find h ws (found h ws w (n .0) mode) 4 (is-find h ws w (n .0) mode ∙ call-refused layout (find w (n .0) mode) h ws (walkOf h ws .met) (held h ws (k .good) (k .whole)) 4 refl (rw g)) v e
+      refuse-find h ws (found h ws w (n .0) mode) 4 (is-find h ws w (n .0) mode ∙ call-refused layout (find w (n .0) mode) h ws (walkOf h ws .met) (held h ws (k .good) (k .whole)) 4 refl (rw (size-refused (arenaOf h) w (n .0) g))) v e
 
   module _ (g : good-size (arenaOf h) w (n .0) ≡ true) where
     chosen : Placed met (choose w want met) s

@@ -3,8 +3,8 @@ pub mod LayoutLaws
 pub mod Ways
 pub mod Answers
 pub mod Requests
-pub mod InsertAnswers
-pub mod DeleteAnswers
+pub mod EditAnswers
 pub mod FindAnswers
 pub mod WalkAnswers
+pub mod RightMet
 pub mod DemandMet

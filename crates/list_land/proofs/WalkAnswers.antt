@@ -1,28 +1,40 @@
--- The ways out of a walk in a sound list: 2, and the range met. Assumes nothing.
+-- The ways out of a walk: 5, 6, 2, and the range met; and that it leaves every word. Assumes nothing.
 use Prim.Native.Nat.{ℕ}
 use mathlib.Core.Bool.{Bool, true, false}
 use mathlib.Core.List.{List}
-use mathlib.Core.Path.{_≡_, refl, sym, _∙_}
+use mathlib.Core.Path.{_≡_, refl, sym, ap, _∙_}
 use lib.Dec.{eqb}
 use Rattle.units.specs.declared.Addr.{Addr}
 use Rattle.units.specs.declared.aims.Aim.{Aim}
 use Rattle.model.specs.Calls.{walk}
+use Rattle.model.specs.Layouts.{holding}
 use Rattle.model.specs.Marks.{Range, rng}
 use Rattle.model.specs.Steps.{next-from}
-use Rattle.model.proofs.Finding.{walk-visits}
+use Rattle.model.proofs.Finding.{walk-visits, walk-keeps}
 use Rattle.model.proofs.Outcomes.{call-refused, call-accepted}
+use Rattle.list_words.specs.Laying.{lay}
 use Rattle.list_words.specs.declared.Spot.{Spot}
+use Rattle.list_words.proofs.Laid.{lay-laid}
 use Rattle.list_words.proofs.Keeping.{Placed, none-there, one-there, kept-from}
-use Rattle.list_land.specs.Calls.{walked, changed, refusedBy}
-use Rattle.list_land.specs.Layout.{base, limit, arenaOf, walkOf, layout}
+use Rattle.list_land.specs.Calls.{LandDone, walked, changed, refusedBy}
+use Rattle.list_land.specs.Layout.{base, limit, arenaOf, walkOf, readOf, layout}
 use Rattle.list_land.specs.Parts.{lookOf, Sought}
 use Rattle.list_land.specs.declared.Changed.{Changed}
 use Rattle.list_land.specs.declared.ListLand.{ListLand}
 use Rattle.list_land.specs.declared.Look.{Look}
 use Rattle.list_land.proofs.Answers.{is-walk, refuse-change, answers-5, answers-6, saw-sound}
-use Rattle.list_land.proofs.LayoutLaws.{held, handle-back}
+use Rattle.list_land.proofs.LayoutLaws.{reads, held, handle-back}
 use Rattle.list_land.proofs.Requests.{sought-fine}
-use Rattle.list_land.proofs.Sound.{Fine}
+use Rattle.list_land.proofs.Sound.{Fine, fine}
+
+-- the words of a walk are those that it was given
+laid-already : (h : ListLand) (ws : List ℕ) (rs : List Range) → readOf h ws ≡ holding rs → lay (base h) rs ws ≡ ws
+laid-already h ws rs e =
+    let p = reads h ws rs e in
+    lay-laid (base h) rs ws (rw (p .same) at (fine h ws (p .good) (p .whole) .laid))
+
+pub walk-words : (h : ListLand) (ws : List ℕ) (x : ℕ) → ws ≡ walked h ws x .words
+walk-words h ws x = sym (ap (λ (d : LandDone). d .words) (is-walk h ws x) ∙ walk-keeps layout laid-already x h ws)
 
 module _ (h : ListLand) (ws : List ℕ) (x : Addr) (v : Look) (e : v ≡ lookOf h ws (Aim.From x)) (w : Changed) where
   pub walk-5 : v ≡ Look.BadSetUp → w ≡ refusedBy h 5 → w ≡ changed (walked h ws (x .0))
@@ -60,4 +72,4 @@ module _ (h : ListLand) (ws : List ℕ) (x : Addr) (v : Look) (e : v ≡ lookOf 
       let u = c .at .here in
       rw d (λ i. record { land = sym b i; answer = 0; range = u i })
 
-pub ruleset walk-ways = (walk-5, walk-6, walk-2, walk-0)
+pub ruleset walk-ways = (walk-words, walk-5, walk-6, walk-2, walk-0)

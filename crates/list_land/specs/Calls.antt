@@ -2,10 +2,12 @@
 use Prim.Native.Nat.{ℕ}
 use mathlib.Core.Bool.{cond}
 use mathlib.Core.List.{List}
+use Rattle.units.specs.Rules.{setUpNumber}
 use Rattle.units.specs.Words.{rangeOf, addr}
 use Rattle.units.specs.declared.Mode.{Mode}
 use Rattle.units.specs.declared.Range.{Range}
 use Rattle.units.specs.declared.Which.{Which}
+use Rattle.units.specs.declared.rules.SetUp.{SetUp}
 use Rattle.model.specs.Calls.{Outcome, insert, delete, find, walk}
 use Rattle.model.specs.Layouts.{Done}
 use Rattle.model.specs.Lands.{land-call}
@@ -48,7 +50,7 @@ unfoldable pub openedOf : ℕ → ℕ → ℕ → List ℕ → Opened
 openedOf b l a ws =
     cond (setUp (newLand b l a) ws)
     (record { land = newLand b l a; answer = 0 })
-    (record { land = newLand 0 0 0; answer = 5 })
+    (record { land = newLand 0 0 0; answer = setUpNumber SetUp.Bad })
 
 -- A refusal: the handle given and ranges (0, 0).
 abbrev pub refusedBy : ListLand → ℕ → Changed

@@ -10,9 +10,9 @@ use Rattle.model.specs.Lists.{marksOf}
 use Rattle.model.specs.Calls.{Call, Outcome}
 use Rattle.model.specs.Layouts.{holding}
 use Rattle.model.specs.Histories.{Seen}
-use Rattle.model.specs.Lands.{Shown, LandHistory}
+use Rattle.model.specs.Lands.{Shown, LandLayout, LandHistory}
 use Rattle.model.specs.Demand.{Claims}
-use Rattle.list_land.specs.Layout.{base, readOf, layout}
+use Rattle.list_land.specs.Layout.{base, readOf, ranges-in, layout}
 use Rattle.list_land.specs.Calls.{openedOf}
 use Rattle.list_land.specs.declared.ListLand.{ListLand}
 
@@ -20,17 +20,39 @@ use Rattle.list_land.specs.declared.ListLand.{ListLand}
 -- writes before each of them: every answer and range is the reference model's, after every call the handle and the words give its
 -- isolated ranges and their counts, damage is never reported, a byte is free exactly if the last accepted call that touched it
 -- put it in, and a find answers 2 exactly if no such run of free bytes exists.
-abbrev pub ListDemand3 : Type 0
-ListDemand3 =
+abbrev pub Demand3For : LandLayout ListLand → Type 0
+Demand3For R =
     (b l a : ℕ) (ws : List ℕ) → openedOf b l a ws .answer ≡ 0 →
-    (cs : List Call) (os : List (Seen Outcome Shown)) → LandHistory layout (openedOf b l a ws .land) ws cs os →
+    (cs : List Call) (os : List (Seen Outcome Shown)) → LandHistory R (openedOf b l a ws .land) ws cs os →
     Claims (record { base = b; limit = l; align = a; room = none }) none-marked cs os
+
+-- The host may write every word but those of the present descriptors.
+abbrev pub ListDemand3 : Type 0
+ListDemand3 = Demand3For layout
 
 -- The word number i is free: its first byte is in a range of the set.
 abbrev pub free-word : ListLand → List Range → ℕ → Bool
 free-word h rs i = marksOf rs (base h + 8 * i)
 
--- What the host may write includes every word that is not free.
+-- Document 01's own host writes words that are not free: every free word stays the same.
+abbrev pub free-kept : ListLand → List ℕ → List ℕ → Type 0
+free-kept h ws ws' =
+    (length ws' ≡ length ws) × ((i : ℕ) → free-word h (ranges-in (readOf h ws)) i ≡ true → getD ws' i 0 ≡ getD ws i 0)
+
+abbrev pub own-layout : LandLayout ListLand
+own-layout = record {
+  arena = layout .arena;
+  read = layout .read;
+  show = layout .show;
+  close = layout .close;
+  words = layout .words;
+  host = free-kept;
+}
+
+abbrev pub OwnDemand3 : Type 0
+OwnDemand3 = Demand3For own-layout
+
+-- What the host may write in the wider claim includes every word that is not free.
 abbrev pub HostMayWrite : Type 0
 HostMayWrite =
     (h : ListLand) (ws ws' : List ℕ) (rs : List Range) → readOf h ws ≡ holding rs → length ws' ≡ length ws →

@@ -3,6 +3,7 @@ use crate::Changed;
 use crate::ListLand;
 use crate::Look;
 use crate::refused;
+use list_edits::Edited;
 use list_words::Spot;
 use units::Aim;
 use units::Range;
@@ -21,18 +22,15 @@ impl ListLand {
         let RangeCheck::Good = arena.check_range(range) else {
             return refused(self, 4);
         };
-        let here = spot.here;
-        if here.base.is_zero() {
+        let Edited::Done(c, old) = list_edits::cut_out(arena, words, self.chain(), range, spot)
+        else {
             return refused(self, 1);
-        }
-        if range.base.lt(here.base) {
-            return refused(self, 1);
-        }
-        let chain = list_edits::cut_at(arena, words, self.chain(), spot, range);
+        };
+        let chain = c;
         Changed {
             land: self.close(chain.head, chain.ranges, chain.bytes),
             answer: 0,
-            range: here,
+            range: old,
         }
     }
 

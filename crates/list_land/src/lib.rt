@@ -175,7 +175,7 @@ impl ListLand {
 
     // The isolated range of lowest base at or above `from`. Going on from each range's limit meets every range once.
     pub fn walk(self, words: &[u64], from: Addr) -> Changed
-        ensures { λ r. ⌜ r ≡ changed (walked self (now (words .entry)) (from .0)) ⌝ }
+        ensures { λ r. ⌜ (r ≡ changed (walked self (now (words .entry)) (from .0))) × (now (words .entry) ≡ walked self (now (words .entry)) (from .0) .words) ⌝ }
     {
         match self.look(words, Aim::From(from)) {
             Look::BadSetUp => refused(self, 5),

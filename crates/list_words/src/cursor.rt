@@ -4,8 +4,10 @@ use crate::Met;
 use units::Addr;
 use units::Arena;
 use units::Size;
+use units::Soundness;
 ghost use mathlib.Core.Path.{_≡_};
 ghost use lib.ListN.{length};
+ghost use Rattle.units.specs.Rules.{soundnessOf};
 ghost use Rattle.list_words.specs.Words.{soundWalk};
 ghost use Rattle.list_words.specs.Surveys.{Ready, Along, Near, startAt, onward, countsOf, walkOf};
 
@@ -49,25 +51,28 @@ impl Cursor {
     }
 
     // Whether the ranges and bytes met are those of the handle.
-    pub(crate) fn counts(self, chain: Chain) -> bool
-        ensures { λ r. ⌜ r ≡ countsOf self chain ⌝ }
+    pub(crate) fn counts(self, chain: Chain) -> Soundness
+        ensures { λ r. ⌜ r ≡ soundnessOf (countsOf self chain) ⌝ }
     {
         if chain.ranges != self.count {
-            return false;
+            return Soundness::Damaged;
         }
-        chain.bytes.same(self.bytes)
+        if !chain.bytes.same(self.bytes) {
+            return Soundness::Damaged;
+        }
+        Soundness::Sound
     }
 
     // Whether the whole list is sound, by the walk from here.
-    pub(crate) fn sound_on(self, arena: Arena, words: &[u64], chain: Chain) -> bool
+    pub(crate) fn sound_on(self, arena: Arena, words: &[u64], chain: Chain) -> Soundness
         requires { ⌜ Ready arena (length (now words)) ⌝ }
         requires { ⌜ Along arena (now words) (chain .head .0) self ⌝ }
-        ensures { λ r. ⌜ r ≡ soundWalk (walkOf arena (now (words .entry)) (chain .head .0)) (chain .ranges) (chain .bytes .0) ⌝ }
+        ensures { λ r. ⌜ r ≡ soundnessOf (soundWalk (walkOf arena (now (words .entry)) (chain .head .0)) (chain .ranges) (chain .bytes .0)) ⌝ }
     {
         let mut cur = self;
         while !cur.at.is_zero() {
             let Met::Found(end, next) = crate::step(arena, words, cur.low, cur.at) else {
-                return false;
+                return Soundness::Damaged;
             };
             cur = cur.on(end, next);
         }

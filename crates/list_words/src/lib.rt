@@ -12,6 +12,7 @@ use units::Aim;
 use units::Arena;
 use units::Range;
 use units::Size;
+use units::Soundness;
 ghost use mathlib.Core.Path.{_≡_};
 ghost use Prim.Native.Nat.{_≤_};
 ghost use lib.ListN.{length};
@@ -102,9 +103,9 @@ fn weigh(arena: Arena, words: &[u64], chain: Chain, aim: Aim) -> Verdict
         prev = here;
         cur = cur.on(end, next);
     }
-    if !cur.counts(chain) {
+    let Soundness::Sound = cur.counts(chain) else {
         return Verdict::Damaged;
-    }
+    };
     if kept.here.base.is_zero() {
         return Verdict::Sound(Spot {
             prev,
@@ -128,8 +129,8 @@ pub fn survey(arena: Arena, words: &[u64], chain: Chain, aim: Aim) -> Verdict
     };
     let spot = s;
     let cur = c;
-    if cur.sound_on(arena, words, chain) {
-        return Verdict::Sound(spot);
-    }
-    Verdict::Damaged
+    let Soundness::Sound = cur.sound_on(arena, words, chain) else {
+        return Verdict::Damaged;
+    };
+    Verdict::Sound(spot)
 }

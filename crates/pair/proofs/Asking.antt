@@ -2,7 +2,7 @@
 use Prim.Native.Nat.{ℕ, _≤_, _<_}
 use mathlib.Core.Bool.{true, false}
 use mathlib.Core.List.{List, [], _∷_}
-use mathlib.Core.Path.{_≡_, refl, _∙_}
+use mathlib.Core.Path.{_≡_, refl, ap, _∙_}
 use types.Run.{OneOf}
 use denote.Enum.Declared.{tagOf}
 use Rattle.units.specs.Rules.{goodAlign, rangeCheck}
@@ -11,8 +11,9 @@ use Rattle.units.specs.declared.aims.Aim.{Aim}
 use Rattle.units.specs.declared.rules.Arena as units-arena
 use Rattle.units.specs.declared.rules.RangeCheck.{RangeCheck}
 use Rattle.units.proofs.rules.RangeCheck as range-type
-use Rattle.model.specs.Calls.{good-range}
+use Rattle.model.specs.Calls.{good-range, range-number}
 use Rattle.model.proofs.Checks.{range-bad, range-good}
+use Rattle.model.proofs.Requests.{range-refused}
 use Rattle.list_words.specs.declared.Spot.{Spot}
 use Rattle.list_land.specs.Layout as list
 use Rattle.list_land.proofs.Sound as list-sound
@@ -42,10 +43,13 @@ module _ (p : Pair) (ws vs : List ℕ) {aim : Aim} (y : units.Range) (s : Spot) 
         -- of any call that answers 4 where the rule is broken
         pub asked-4 : {R : Type 0} (g : PairDone → R) (c : PairCall) (d : PairDone) → d ≡ called c p ws vs →
             (good-range (block.arenaOf (p .block) vs) (y .base .0) (y .limit .0) ≡ false → pair-step (block.arenaOf (p .block) vs) c (both (list.walkOf (p .list) ws .met) (block.tableOf (p .block) vs))
-            ≡ keep 4 (both (list.walkOf (p .list) ws .met) (block.tableOf (p .block) vs))) →
+            ≡ keep (range-number (block.arenaOf (p .block) vs) (y .base .0) (y .limit .0)) (both (list.walkOf (p .list) ws .met) (block.tableOf (p .block) vs))) →
             OneOf (1 ∷ 2 ∷ 3 ∷ 4 ∷ []) (tagOf range-type.the-type r) → (w : R) → w ≡ g (refusal p ws vs 4) → Hands g d w ws vs
         asked-4 g c d ed f t =
-            refuse g p ws vs 4 d (ed ∙ refuses p ws vs aim s e k c 4 refl (f (range-bad (block.arenaOf (p .block) vs) a' (ea' ∙ ea) y r er t)))
+            let bad = range-bad (block.arenaOf (p .block) vs) a' (ea' ∙ ea) y r er t in
+            let four = range-refused (block.arenaOf (p .block) vs) (y .base .0) (y .limit .0) bad in
+            refuse g p ws vs 4 d
+            (ed ∙ refuses p ws vs aim s e k c 4 refl (f bad ∙ ap (λ (n : ℕ). keep n (both (list.walkOf (p .list) ws .met) (block.tableOf (p .block) vs))) four))
 
         pub asked-good : r ≡ RangeCheck.Good → Ranged p ws vs aim y s e
         asked-good f = record { checked = k; good = range-good (block.arenaOf (p .block) vs) a' (ea' ∙ ea) y r er f }

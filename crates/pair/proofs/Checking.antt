@@ -54,14 +54,10 @@ module _ (p : Pair) (ws vs : List ℕ) (r : SetUp) (er : r ≡ setUpOf (list.set
     pub up-block : q ≡ SetUp.Bad → SetUp.Bad ≡ setUpOf (setUp p ws vs)
     up-block g = rw (set-up-true (list.setUp (p .list) ws) r er f, set-up-false (block.setUp (p .block) vs) q eq g)
 
-    module _ (g : q ≡ SetUp.Good) (t : Bool) (et : t ≡ sameArena (p .list) (p .block)) where
-      pub up-same : t ≡ true → SetUp.Good ≡ setUpOf (setUp p ws vs)
-      up-same h = rw (set-up-true (list.setUp (p .list) ws) r er f, set-up-true (block.setUp (p .block) vs) q eq g, sym et ∙ h)
+    pub up-same : q ≡ SetUp.Good → (t : SetUp) → t ≡ setUpOf (sameArena (p .list) (p .block)) → t ≡ setUpOf (setUp p ws vs)
+    up-same g t et = rw (set-up-true (list.setUp (p .list) ws) r er f, set-up-true (block.setUp (p .block) vs) q eq g) et
 
-      pub up-differ : t ≡ false → SetUp.Bad ≡ setUpOf (setUp p ws vs)
-      up-differ h = rw (set-up-true (list.setUp (p .list) ws) r er f, set-up-true (block.setUp (p .block) vs) q eq g, sym et ∙ h)
-
-pub ruleset ups = (up-list, up-block, up-same, up-differ)
+pub ruleset ups = (up-list, up-block, up-same)
 
 -- what a good set-up says
 module _ (p : Pair) (ws vs : List ℕ) (g : setUp p ws vs ≡ true) where

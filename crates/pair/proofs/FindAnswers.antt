@@ -11,7 +11,8 @@ use Rattle.units.specs.declared.Which.{Which}
 use Rattle.units.specs.declared.aims.Aim.{Aim}
 use Rattle.units.specs.declared.rules.Arena as units-arena
 use Rattle.model.specs.Calls as land
-use Rattle.model.specs.Calls.{Arena, Step, good-size, find-size}
+use Rattle.model.specs.Calls.{Arena, Step, good-size, size-number, find-size}
+use Rattle.model.proofs.Requests.{size-refused}
 use Rattle.model.specs.Flushing.{unlimited}
 use Rattle.model.specs.Marks.{Range}
 use Rattle.model.specs.Steps.{list-ops, choose, step}
@@ -86,14 +87,14 @@ module _ (p : Pair) (ws vs : List ℕ) (w : Which) (n : Size) (mode : Mode) (s :
   pub find-4 : good-size (block.arenaOf (p .block) vs) w (n .0) ≡ false → (v : Found) → v ≡ foundNone p 4 → Gives v ws vs
   find-4 g v ev =
       refuse foundOf p ws vs 4 (found p ws vs w (n .0) mode)
-      (is-found p ws vs w (n .0) mode ∙ refuses p ws vs (findAim p w n) s e k (find w (n .0) mode) 4 refl (rw g)) v ev
+      (is-found p ws vs w (n .0) mode ∙ refuses p ws vs (findAim p w n) s e k (find w (n .0) mode) 4 refl (rw (size-refused (block.arenaOf (p .block) vs) w (n .0) g))) v ev
 
   module _ (g : good-size (block.arenaOf (p .block) vs) w (n .0) ≡ true) (t : Side) (et : t ≡ sideOf w (s .here) (e .here)) where
     -- the step is the one of the side that the code takes
     stepped : pair-step (block.arenaOf (p .block) vs) (find w (n .0) mode) (both (list.walkOf (p .list) ws .met) (block.tableOf (p .block) vs))
         ≡ by-side (block.arenaOf (p .block) vs) (land.find w (n .0) mode) w (both (list.walkOf (p .list) ws .met) (block.tableOf (p .block) vs)) t
     stepped =
-        ap (λ (x : Bool). cond x (find-in a c w sets (choose w (find-size a (n .0)) rs) (choose w (find-size a (n .0)) qs)) (keep 4 sets)) g
+        ap (λ (x : Bool). cond x (find-in a c w sets (choose w (find-size a (n .0)) rs) (choose w (find-size a (n .0)) qs)) (keep (size-number a w (n .0)) sets)) g
         ∙ side-step a c w sets (choose w (find-size a (n .0)) rs) (choose w (find-size a (n .0)) qs)
         (list-above (p .list) ws w n s sought) (block-above (p .block) vs w n e aimed)
         ∙ ap₂ (λ (x y : units.Range). by-side a c w sets (sideOf w x y)) (sym (list-here (p .list) ws w n s sought)) (sym (block-here (p .block) vs w n e aimed))

@@ -1,6 +1,6 @@
 -- The edits of one land of a pair: the ways out of `give`, `take` and `lower`. Assumes nothing.
 use Prim.Native.Nat.{ℕ, _+_, _-_, _≤_}
-use mathlib.Core.Bool.{true}
+use mathlib.Core.Bool.{Bool, true}
 use mathlib.Core.List.{List, [], _∷_}
 use mathlib.Core.Logic.{⊎-elim}
 use mathlib.Core.Path.{_≡_, sym, _∙_}
@@ -13,15 +13,15 @@ use Rattle.units.specs.declared.Size.{Size}
 use Rattle.units.specs.declared.rules.Arena.{Arena}
 use Rattle.units.proofs.Tests.{clash}
 use Rattle.model.specs.Marks.{Range}
-use Rattle.model.specs.Lists.{total, holds}
+use Rattle.model.specs.Lists.{total, overlaps, holds, holder}
 use Rattle.model.proofs.Totals.{total-delete}
 use Rattle.list_words.specs.Laying.{lay}
 use Rattle.list_words.specs.declared.Chain.{Chain}
 use Rattle.list_words.specs.declared.Spot.{Spot}
 use Rattle.list_edits.specs.Chains as chains
-use Rattle.list_edits.specs.Chains.{metOf, Held, Holding, mayAsk, putOf, putWords, cutChain}
+use Rattle.list_edits.specs.Chains.{metOf, Held, Holding, mayAsk, edited, editedWords, putOf, putWords, cutChain}
 use Rattle.list_edits.specs.declared.Edited as list-edited
-use Rattle.list_edits.proofs.Answered.{answer-refused, answer-done, words-done}
+use Rattle.list_edits.proofs.Answered.{edited-refused, edited-done}
 use Rattle.list_land.specs.Layout as list
 use Rattle.list_land.specs.Parts.{arenaIn, chainIn, closedWith, reachBase}
 use Rattle.list_land.specs.declared.ListLand.{ListLand}
@@ -47,19 +47,26 @@ module _ (h : ListLand) (ws : List ℕ) (y : units.Range) (s : Spot) where
     give-asks = (list-requests.sought-held h ws (reachBase y) s (k .sought) a ea c ec, rw ea (k .good))
 
     module _ (v : list-edited.Edited) (ws' : List ℕ) (e : (v ≡ putOf (metOf a ws c) y) × (ws' ≡ putWords (metOf a ws c) y (a .base .0) ws)) where
-      said : (v ≡ putOf (list.walkOf h ws .met) y) × (ws' ≡ putWords (list.walkOf h ws .met) y (list.base h) ws)
+      abbrev bad : Bool
+      bad = overlaps (y .base .0) (y .limit .0) met
+
+      abbrev held : Range
+      held = holder (y .base .0) (y .limit .0) (listMore h ws y)
+
+      said : (v ≡ edited bad (listMore h ws y) held) × (ws' ≡ editedWords bad (listMore h ws y) (list.base h) ws)
+      unfolding putOf putWords
       said = rw (ea, ec) at e
 
       pub give-never : {P : Type 0} → v ≡ list-edited.Edited.Refused → P
-      give-never f = clash (answer-refused met y (sym (said .0) ∙ f)) (k .apart)
+      give-never f = clash (edited-refused (listMore h ws y) held bad (sym (said .0) ∙ f)) (k .apart)
 
       pub give-done : (n : Chain) (x : units.Range) → v ≡ list-edited.Edited.Done n x → (z : ListLand) → z ≡ closedWith h (n .head) (n .ranges) (n .bytes) →
           (record { list = z; range = x } ≡ given h ws y) × (ws' ≡ lay (list.base h) (listMore h ws y) ws)
       give-done n x f z ez =
-          let d = answer-done met y n x (sym (said .0) ∙ f) in
+          let d = edited-done (listMore h ws y) held bad n x (sym (said .0) ∙ f) in
           let u = list-requests.closes h (listMore h ws y) n (d .chain) z ez in
           let r = d .range in
-          ((λ i. record { list = u i; range = r i }), said .1 ∙ words-done met y (list.base h) ws (k .apart))
+          ((λ i. record { list = u i; range = r i }), said .1 ∙ rw (k .apart))
 
   -- A PART TAKEN OUT OF IT
   module _ (k : Taking h ws y s) (a : Arena) (ea : a ≡ arenaIn h) (c : Chain) (ec : c ≡ chainIn h) where

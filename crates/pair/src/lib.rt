@@ -86,11 +86,7 @@ impl Pair {
         let SetUp::Good = block.set_up(nodes) else {
             return SetUp::Bad;
         };
-        if flush::same_arena(list, block) {
-            SetUp::Good
-        } else {
-            SetUp::Bad
-        }
+        flush::same_arena(list, block)
     }
 
     // The checks of a call, in their order: the set-up, a sound list, a sound table, no byte in both.

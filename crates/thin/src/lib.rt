@@ -26,7 +26,7 @@ pub fn delete(land: &mut ListLand, words: &mut [u64], range: Range) -> Changed
 }
 
 pub fn walk(land: &mut ListLand, words: &[u64], from: Addr) -> Changed
-    ensures { λ r. ⌜ (r ≡ changed (walked (now (land .entry)) (now (words .entry)) (from .0))) × (now (land .exit) ≡ r .land) ⌝ }
+    ensures { λ r. ⌜ (r ≡ changed (walked (now (land .entry)) (now (words .entry)) (from .0))) × (now (land .exit) ≡ r .land) × (now (words .entry) ≡ walked (now (land .entry)) (now (words .entry)) (from .0) .words) ⌝ }
 {
     let done = ListLand::walk(*land, words, from);
     *land = done.land;

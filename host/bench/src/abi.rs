@@ -23,14 +23,14 @@ pub struct Found<L> {
     pub old: Range,
 }
 
-pub const OK: u64 = 0;
-pub const OVERLAP: u64 = 1;
-pub const NONE: u64 = 2;
-pub const FULL: u64 = 3;
-pub const REQUEST: u64 = 4;
-pub const SET_UP: u64 = 5;
-pub const DAMAGED: u64 = 6;
-pub const IN_BOTH: u64 = 7;
+pub const ANSWER_OK: u64 = 0;
+pub const ANSWER_OVERLAP: u64 = 1;
+pub const ANSWER_NONE: u64 = 2;
+pub const ANSWER_FULL: u64 = 3;
+pub const ANSWER_REQUEST: u64 = 4;
+pub const ANSWER_SET_UP: u64 = 5;
+pub const ANSWER_DAMAGED: u64 = 6;
+pub const ANSWER_IN_BOTH: u64 = 7;
 
 pub const MODE_NONE: u64 = 0;
 pub const MODE_LOW: u64 = 1;

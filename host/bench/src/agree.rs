@@ -75,7 +75,7 @@ pub fn over_requests<L: Land>(chequer: &Chequer, requests: &Requests) {
     match requests {
         Requests::Changes(changes) => {
             for &change in changes {
-                assert_eq!(three.change(change).answer, OK, "answer to a change");
+                assert_eq!(three.change(change).answer, ANSWER_OK, "answer to a change");
             }
         }
         Requests::Finds(sizes) => {
@@ -83,7 +83,7 @@ pub fn over_requests<L: Land>(chequer: &Chequer, requests: &Requests) {
                 let found = three.find_first(size, MODE_LOW);
                 let range = found.range;
                 let changed = three.change(Change { insert: true, range });
-                assert_eq!([found.answer, changed.answer], [OK; 2], "answers to a find");
+                assert_eq!([found.answer, changed.answer], [ANSWER_OK; 2], "answers to a find");
             }
         }
     }
@@ -145,18 +145,18 @@ pub fn on_damage() {
     for (what, damage) in LIST_DAMAGES {
         let (mut land, [mut words]) = ListLand::holding(chequer);
         damage(&mut land, &mut words);
-        Three::new(land, [words]).must_be_refused(what, DAMAGED);
+        Three::new(land, [words]).must_be_refused(what, ANSWER_DAMAGED);
         let (mut pair, [mut words, nodes]) = chequered_pair(chequer);
         damage(&mut pair.list, &mut words);
-        Three::new(pair, [words, nodes]).must_be_refused(what, DAMAGED);
+        Three::new(pair, [words, nodes]).must_be_refused(what, ANSWER_DAMAGED);
     }
     for (what, damage) in BLOCK_DAMAGES {
         let (mut land, [mut nodes]) = BlockLand::holding(chequer);
         damage(&mut land, &mut nodes);
-        Three::new(land, [nodes]).must_be_refused(what, DAMAGED);
+        Three::new(land, [nodes]).must_be_refused(what, ANSWER_DAMAGED);
         let (mut pair, [words, mut nodes]) = chequered_pair(chequer);
         damage(&mut pair.block, &mut nodes);
-        Three::new(pair, [words, nodes]).must_be_refused(what, DAMAGED);
+        Three::new(pair, [words, nodes]).must_be_refused(what, ANSWER_DAMAGED);
     }
 }
 
@@ -169,13 +169,13 @@ pub fn on_overlaps() {
         for (base, limit) in [(base, limit), (base - 8, base + 8), (limit - 8, limit + 8), (base - 8, limit + 8)] {
             let overlap = Change { insert: true, range: Range { base, limit } };
             let (pair, memory) = in_one_land(pair, memory.clone(), overlap);
-            Three::new(pair, memory).must_be_refused("overlapping lands", DAMAGED);
+            Three::new(pair, memory).must_be_refused("overlapping lands", ANSWER_DAMAGED);
         }
         for (base, limit) in [(base - 8, base), (limit, limit + 8)] {
             let touch = Change { insert: true, range: Range { base, limit } };
             let (pair, memory) = in_one_land(pair, memory.clone(), touch);
             let found = Three::new(pair, memory).find_first(8, MODE_NONE);
-            assert_eq!(found.answer, OK, "answer to lands that touch");
+            assert_eq!(found.answer, ANSWER_OK, "answer to lands that touch");
         }
     }
 }
@@ -186,7 +186,7 @@ fn in_one_land(mut pair: Pair, memory: [Vec<u64>; 2], change: Change) -> (Pair, 
     let (mut words, mut nodes) = ([words], [nodes]);
     let listed = change_by::<HandRust, _>(pair.list, &mut words, change);
     pair.list = listed.land;
-    if listed.answer != OK {
+    if listed.answer != ANSWER_OK {
         pair.block = change_by::<HandRust, _>(pair.block, &mut nodes, change).land;
     }
     let ([words], [nodes]) = (words, nodes);
@@ -213,28 +213,28 @@ pub fn on_set_ups() {
     const END: u64 = 1 << 40;
     for align in (0..=64_u64).chain([127, 128, 256, 512, 1024, 2048, 4095, 4096, 8192]) {
         let good = align.is_power_of_two() && (8..=4096).contains(&align);
-        empty_answers(AT, AT, align, if good { REQUEST } else { SET_UP });
+        empty_answers(AT, AT, align, if good { ANSWER_REQUEST } else { ANSWER_SET_UP });
     }
-    empty_answers(END, END, 8, REQUEST);
+    empty_answers(END, END, 8, ANSWER_REQUEST);
     for (base, limit) in [(0, 0), (AT, AT - 8), (AT + 4, AT + 4), (END + 8, END + 8)] {
-        empty_answers(base, limit, 8, SET_UP);
+        empty_answers(base, limit, 8, ANSWER_SET_UP);
     }
     let (list, block) = empty_lands(AT, AT + 64, 8);
     for n in [0, 7, 9] {
-        Three::new(list, [vec![0; n]]).must_be_refused("a lent length", SET_UP);
-        Three::new(Pair { list, block }, [vec![0; n], vec![0; 4]]).must_be_refused("a lent length", SET_UP);
+        Three::new(list, [vec![0; n]]).must_be_refused("a lent length", ANSWER_SET_UP);
+        Three::new(Pair { list, block }, [vec![0; n], vec![0; 4]]).must_be_refused("a lent length", ANSWER_SET_UP);
     }
     for (base, limit, align) in [(AT + 8, AT + 64, 8), (AT, AT + 72, 8), (AT, AT + 64, 16)] {
         let (other_list, other_block) = empty_lands(base, limit, align);
         let [words, other_words] = [64, limit - base].map(|length| vec![0; length as usize / 8]);
         let nodes = vec![0; 4];
         let pair = Pair { list, block: other_block };
-        Three::new(pair, [words, nodes.clone()]).must_be_refused("two arenas", SET_UP);
+        Three::new(pair, [words, nodes.clone()]).must_be_refused("two arenas", ANSWER_SET_UP);
         let pair = Pair { list: other_list, block };
-        Three::new(pair, [other_words, nodes]).must_be_refused("two arenas", SET_UP);
+        Three::new(pair, [other_words, nodes]).must_be_refused("two arenas", ANSWER_SET_UP);
     }
     let (list, block) = empty_lands(AT, AT, 8);
-    for (m, answer) in [(2_097_152, REQUEST), (2_097_153, SET_UP)] {
+    for (m, answer) in [(2_097_152, ANSWER_REQUEST), (2_097_153, ANSWER_SET_UP)] {
         Three::new(block, [vec![0; m]]).must_be_refused("long node space", answer);
         Three::new(Pair { list, block }, [vec![], vec![0; m]]).must_be_refused("long node space", answer);
     }

@@ -170,34 +170,34 @@ fn list_take(land: &mut ListLand, words: &mut [u64], below: u64, met: Node, r: R
 #[inline(never)]
 pub fn list_insert(mut land: ListLand, words: &mut [u64], r: Range) -> Changed<ListLand> {
     if !list_set_up_ok(&land, words.len()) {
-        return no_change(land, SET_UP);
+        return no_change(land, ANSWER_SET_UP);
     }
     let mut walk = ListWalk::from_head(&land);
     let mut below = Node::default();
     while walk.at != 0 && walk.at < r.base {
         match walk.step(words) {
             Some(node) => below = node,
-            None => return no_change(land, DAMAGED),
+            None => return no_change(land, ANSWER_DAMAGED),
         }
     }
     let mut above = Node::default();
     if walk.at != 0 {
         match walk.step(words) {
             Some(node) => above = node,
-            None => return no_change(land, DAMAGED),
+            None => return no_change(land, ANSWER_DAMAGED),
         }
     }
     if !walk.rest_ok(words, &land) {
-        return no_change(land, DAMAGED);
+        return no_change(land, ANSWER_DAMAGED);
     }
     if !range_ok(land.base, land.limit, land.align, r) {
-        return no_change(land, REQUEST);
+        return no_change(land, ANSWER_REQUEST);
     }
     if list_overlaps(below, above, r) {
-        return no_change(land, OVERLAP);
+        return no_change(land, ANSWER_OVERLAP);
     }
     let all = list_put(&mut land, words, below, above, r);
-    changed(land, OK, all)
+    changed(land, ANSWER_OK, all)
 }
 
 /// Does `r` overlap one of its two neighbours in the list?
@@ -230,7 +230,7 @@ fn list_put(land: &mut ListLand, words: &mut [u64], below: Node, above: Node, r:
 #[inline(never)]
 pub fn list_delete(mut land: ListLand, words: &mut [u64], r: Range) -> Changed<ListLand> {
     if !list_set_up_ok(&land, words.len()) {
-        return no_change(land, SET_UP);
+        return no_change(land, ANSWER_SET_UP);
     }
     let mut walk = ListWalk::from_head(&land);
     let mut met = Node::default();
@@ -239,26 +239,26 @@ pub fn list_delete(mut land: ListLand, words: &mut [u64], r: Range) -> Changed<L
         below = met.base;
         match walk.step(words) {
             Some(node) => met = node,
-            None => return no_change(land, DAMAGED),
+            None => return no_change(land, ANSWER_DAMAGED),
         }
     }
     if !walk.rest_ok(words, &land) {
-        return no_change(land, DAMAGED);
+        return no_change(land, ANSWER_DAMAGED);
     }
     if !range_ok(land.base, land.limit, land.align, r) {
-        return no_change(land, REQUEST);
+        return no_change(land, ANSWER_REQUEST);
     }
     if r.limit > met.limit {
-        return no_change(land, OVERLAP);
+        return no_change(land, ANSWER_OVERLAP);
     }
     list_take(&mut land, words, below, met, r);
-    changed(land, OK, Range { base: met.base, limit: met.limit })
+    changed(land, ANSWER_OK, Range { base: met.base, limit: met.limit })
 }
 
 #[inline(never)]
 pub fn list_find_first(mut land: ListLand, words: &mut [u64], size: u64, mode: u64) -> Found<ListLand> {
     if !list_set_up_ok(&land, words.len()) {
-        return not_found(land, SET_UP);
+        return not_found(land, ANSWER_SET_UP);
     }
     let mut walk = ListWalk::from_head(&land);
     let mut met = Node::default();
@@ -268,25 +268,25 @@ pub fn list_find_first(mut land: ListLand, words: &mut [u64], size: u64, mode: u
         below = met.base;
         match walk.step(words) {
             Some(node) => met = node,
-            None => return not_found(land, DAMAGED),
+            None => return not_found(land, ANSWER_DAMAGED),
         }
         found = met.limit - met.base >= size;
     }
     if !walk.rest_ok(words, &land) {
-        return not_found(land, DAMAGED);
+        return not_found(land, ANSWER_DAMAGED);
     }
     if !find_ok(land.align, size, mode) {
-        return not_found(land, REQUEST);
+        return not_found(land, ANSWER_REQUEST);
     }
     if !found {
-        return not_found(land, NONE);
+        return not_found(land, ANSWER_NONE);
     }
     let old = Range { base: met.base, limit: met.limit };
     let range = part(old, size, mode);
     if mode != MODE_NONE {
         list_take(&mut land, words, below, met, range);
     }
-    Found { land, answer: OK, range, old }
+    Found { land, answer: ANSWER_OK, range, old }
 }
 
 // Block land.
@@ -420,64 +420,64 @@ fn block_put(land: &mut BlockLand, nodes: &mut [u64], i: usize, r: Range) -> Opt
 #[inline(never)]
 pub fn block_insert(mut land: BlockLand, nodes: &mut [u64], r: Range) -> Changed<BlockLand> {
     if !block_set_up_ok(&land, nodes.len()) {
-        return no_change(land, SET_UP);
+        return no_change(land, ANSWER_SET_UP);
     }
     let Some(i) = scan(&land, nodes, |base, _| base < r.base) else {
-        return no_change(land, DAMAGED);
+        return no_change(land, ANSWER_DAMAGED);
     };
     if !range_ok(land.base, land.limit, land.align, r) {
-        return no_change(land, REQUEST);
+        return no_change(land, ANSWER_REQUEST);
     }
     if table_overlaps(&land, nodes, i, r) {
-        return no_change(land, OVERLAP);
+        return no_change(land, ANSWER_OVERLAP);
     }
     match block_put(&mut land, nodes, i, r) {
-        Some(all) => changed(land, OK, all),
-        None => no_change(land, FULL),
+        Some(all) => changed(land, ANSWER_OK, all),
+        None => no_change(land, ANSWER_FULL),
     }
 }
 
 #[inline(never)]
 pub fn block_delete(mut land: BlockLand, nodes: &mut [u64], r: Range) -> Changed<BlockLand> {
     if !block_set_up_ok(&land, nodes.len()) {
-        return no_change(land, SET_UP);
+        return no_change(land, ANSWER_SET_UP);
     }
     let Some(behind) = scan(&land, nodes, |base, _| base <= r.base) else {
-        return no_change(land, DAMAGED);
+        return no_change(land, ANSWER_DAMAGED);
     };
     if !range_ok(land.base, land.limit, land.align, r) {
-        return no_change(land, REQUEST);
+        return no_change(land, ANSWER_REQUEST);
     }
     if behind == 0 || nodes[2 * behind - 1] < r.limit {
-        return no_change(land, OVERLAP);
+        return no_change(land, ANSWER_OVERLAP);
     }
     let old = Range { base: nodes[2 * behind - 2], limit: nodes[2 * behind - 1] };
     if old.base < r.base && r.limit < old.limit && land.ranges as usize == nodes.len() / 2 {
-        return no_change(land, FULL);
+        return no_change(land, ANSWER_FULL);
     }
     block_take(&mut land, nodes, behind - 1, old, r);
-    changed(land, OK, old)
+    changed(land, ANSWER_OK, old)
 }
 
 #[inline(never)]
 pub fn block_find_first(mut land: BlockLand, nodes: &mut [u64], size: u64, mode: u64) -> Found<BlockLand> {
     if !block_set_up_ok(&land, nodes.len()) {
-        return not_found(land, SET_UP);
+        return not_found(land, ANSWER_SET_UP);
     }
     let shorter = |base: u64, limit: u64| limit.wrapping_sub(base) < size;
     let Some(i) = scan(&land, nodes, shorter) else {
-        return not_found(land, DAMAGED);
+        return not_found(land, ANSWER_DAMAGED);
     };
     if !find_ok(land.align, size, mode) {
-        return not_found(land, REQUEST);
+        return not_found(land, ANSWER_REQUEST);
     }
     if i as u64 == land.ranges {
-        return not_found(land, NONE);
+        return not_found(land, ANSWER_NONE);
     }
     let old = Range { base: nodes[2 * i], limit: nodes[2 * i + 1] };
     let range = part(old, size, mode);
     if mode != MODE_NONE {
         block_take(&mut land, nodes, i, old, range);
     }
-    Found { land, answer: OK, range, old }
+    Found { land, answer: ANSWER_OK, range, old }
 }

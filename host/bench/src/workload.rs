@@ -234,8 +234,8 @@ impl<L: Land> Trial<L> {
     fn accepted_change(&mut self, chequer: &Chequer, random: &mut Random) -> [Change; 2] {
         loop {
             let [there, back] = change_and_back(chequer, random);
-            if self.change(there) == OK {
-                assert_eq!(self.change(back), OK, "answer to the change back");
+            if self.change(there) == ANSWER_OK {
+                assert_eq!(self.change(back), ANSWER_OK, "answer to the change back");
                 return [there, back];
             }
         }
@@ -246,10 +246,10 @@ impl<L: Land> Trial<L> {
         loop {
             let size = stair(random.below(STAIRS as u64) as usize) - 8 * random.below(2);
             let found = Calls::<HandRust>::find_first(self.land, &mut self.memory, size, MODE_LOW);
-            if found.answer == OK {
+            if found.answer == ANSWER_OK {
                 self.land = found.land;
                 let back = Change { insert: true, range: found.range };
-                assert_eq!(self.change(back), OK, "answer to the change back");
+                assert_eq!(self.change(back), ANSWER_OK, "answer to the change back");
                 return size;
             }
         }
@@ -315,6 +315,6 @@ pub fn play<I, L: Land + Calls<I>>(mut land: L, memory: &mut L::Memory, requests
             }
         }
     }
-    assert_eq!(answers, OK, "a request was refused");
+    assert_eq!(answers, ANSWER_OK, "a request was refused");
     land
 }

@@ -1,8 +1,9 @@
 //! The block land: its ranges are recorded in separate node space.
 
-use std::fmt;
+use core::fmt;
 
 use crate::handle::{BlockHandle, Mode, Range};
+use crate::ranges::Land;
 use crate::{calls, Found, Ranges, Refusal};
 
 /// A set of free ranges of an arena, recorded in separate node space.
@@ -38,6 +39,7 @@ impl<'w> BlockLand<'w> {
     }
 
     /// The handle and node space.
+    #[must_use = "the land is in it"]
     pub fn into_parts(self) -> (BlockHandle, &'w mut [u64]) {
         (self.handle, self.nodes)
     }
@@ -146,8 +148,8 @@ impl<'w> BlockLand<'w> {
 
     /// All ranges in address order, each met by a walk from the limit of the one before. A refusal other than
     /// [`Refusal::NoneFound`] is the last item.
-    pub fn ranges(&self) -> Ranges<impl Fn(u64) -> Result<Range, Refusal> + '_> {
-        Ranges::new(|from| self.walk(from))
+    pub fn ranges(&self) -> Ranges<'_> {
+        Ranges::new(Land::Block(self))
     }
 
     /// Goes on with the next handle.

@@ -16,6 +16,13 @@
 use crate::handle::{BlockHandle, ListHandle, PairHandle, Range};
 use crate::sys;
 
+/// The number of the archive's interface, [`crate::VERSION`] if this crate fits it.
+#[inline]
+pub fn version() -> u64 {
+    // SAFETY: the call has no arguments.
+    unsafe { sys::lg_version() }
+}
+
 /// Opens a list land. No word is written.
 #[inline]
 pub fn list_open(base: u64, limit: u64, align: u64, words: &[u64]) -> sys::lg_list_opened {

@@ -4,7 +4,7 @@
 //! A land keeps the free ranges of an arena [base, limit). A [`ListLand`] records them inside the free memory, a
 //! [`BlockLand`] in separate node space, and [`flush`] moves them from the first to the second. A [`Pair`] of both
 //! takes over in the list what has no room in node space. No call has a precondition: every handle, every memory and
-//! every number is answered, and a refused call changes nothing.
+//! every number is answered, and a refused call changes nothing. Nothing of `std` is used.
 //!
 //! A host gives out a piece of its memory and takes it back; the second release of the same piece is refused:
 //!
@@ -45,6 +45,7 @@
 //! ```
 //!
 //! The archive `liblimbegoru.a` is made by `host/c/build`; `LIMBEGORU_ARCHIVE_DIR` names its folder if it is elsewhere.
+#![no_std]
 #![deny(missing_docs)]
 #![deny(unsafe_op_in_unsafe_fn)]
 
@@ -53,16 +54,28 @@ pub mod calls;
 mod handle;
 mod list;
 mod pair;
+mod ranges;
 mod refusal;
 pub mod sys;
-
-use std::iter::FusedIterator;
 
 pub use block::BlockLand;
 pub use handle::{BlockHandle, ListHandle, Mode, PairHandle, Range};
 pub use list::ListLand;
 pub use pair::Pair;
+pub use ranges::Ranges;
 pub use refusal::Refusal;
+
+/// The number of the interface for which this crate is written; [`calls::version`] returns the archive's. It is raised
+/// by every change of a struct, a function or the meaning of an answer.
+pub const VERSION: u64 = 1;
+/// The highest limit of an arena, 2^40.
+pub const LIMIT_MAX: u64 = 1 << 40;
+/// The lowest alignment.
+pub const ALIGN_MIN: u64 = 8;
+/// The highest alignment.
+pub const ALIGN_MAX: u64 = 4096;
+/// The longest node space, in words.
+pub const NODE_WORDS_MAX: usize = 2_097_152;
 
 /// What a find found.
 #[derive(Clone, Copy, Debug, PartialEq, Eq, Hash)]
@@ -105,33 +118,3 @@ pub fn flush(list: &mut ListLand<'_>, block: &mut BlockLand<'_>) -> Result<Flush
     block.follow(flushed.block);
     Ok(Flushed { moved: flushed.moved, stop: Refusal::check(flushed.stop).err() })
 }
-
-/// The ranges of a land in address order, each met by a walk from the limit of the one before.
-#[derive(Clone, Debug)]
-pub struct Ranges<W> {
-    walk: W,
-    from: Option<u64>,
-}
-
-impl<W: Fn(u64) -> Result<Range, Refusal>> Ranges<W> {
-    /// Walks from 0 on.
-    fn new(walk: W) -> Ranges<W> {
-        Ranges { walk, from: Some(0) }
-    }
-}
-
-impl<W: Fn(u64) -> Result<Range, Refusal>> Iterator for Ranges<W> {
-    type Item = Result<Range, Refusal>;
-
-    fn next(&mut self) -> Option<Result<Range, Refusal>> {
-        let met = (self.walk)(self.from.take()?);
-        match met {
-            Ok(range) => self.from = Some(range.limit),
-            Err(Refusal::NoneFound) => return None,
-            Err(_) => {}
-        }
-        Some(met)
-    }
-}
-
-impl<W: Fn(u64) -> Result<Range, Refusal>> FusedIterator for Ranges<W> {}

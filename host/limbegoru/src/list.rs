@@ -1,8 +1,9 @@
 //! The list land: its ranges are recorded inside the free memory.
 
-use std::fmt;
+use core::fmt;
 
 use crate::handle::{ListHandle, Mode, Range};
+use crate::ranges::Land;
 use crate::{calls, Found, Ranges, Refusal};
 
 /// A set of free ranges of an arena, recorded in the first words of the ranges themselves.
@@ -37,6 +38,7 @@ impl<'w> ListLand<'w> {
     }
 
     /// The handle and the words.
+    #[must_use = "the land is in it"]
     pub fn into_parts(self) -> (ListHandle, &'w mut [u64]) {
         (self.handle, self.words)
     }
@@ -155,8 +157,8 @@ impl<'w> ListLand<'w> {
     /// assert_eq!(land.ranges().next(), Some(Err(Refusal::Damaged)));
     /// # Ok::<(), Refusal>(())
     /// ```
-    pub fn ranges(&self) -> Ranges<impl Fn(u64) -> Result<Range, Refusal> + '_> {
-        Ranges::new(|from| self.walk(from))
+    pub fn ranges(&self) -> Ranges<'_> {
+        Ranges::new(Land::List(self))
     }
 
     /// Goes on with the next handle.

@@ -1,6 +1,6 @@
 //! The pair: a list land that takes over where a block land of the same arena has no room.
 
-use std::fmt;
+use core::fmt;
 
 use crate::handle::{Mode, PairHandle, Range};
 use crate::{calls, sys, BlockLand, Found, ListLand, Refusal};
@@ -39,6 +39,7 @@ impl<'w> Pair<'w> {
     }
 
     /// The handle, the arena words and node space.
+    #[must_use = "both lands are in it"]
     pub fn into_parts(self) -> (PairHandle, &'w mut [u64], &'w mut [u64]) {
         let (list, words) = self.list.into_parts();
         let (block, nodes) = self.block.into_parts();
@@ -46,6 +47,7 @@ impl<'w> Pair<'w> {
     }
 
     /// The two lands.
+    #[must_use = "both lands are in it"]
     pub fn into_lands(self) -> (ListLand<'w>, BlockLand<'w>) {
         (self.list, self.block)
     }

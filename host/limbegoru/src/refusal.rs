@@ -1,11 +1,13 @@
 //! Refusals, with their numbers and in words.
 
-use std::error::Error;
-use std::fmt;
+use core::error::Error;
+use core::fmt;
 
 /// Why a call was refused. Nothing has changed then. The reasons are checked in the order set-up, damaged, request,
-/// overlap or none found, full; on a pair set-up, damaged, request, overlap or none found, in both.
+/// overlap or none found, full; on a pair set-up, damaged, request, overlap or none found, in both. It prints itself in
+/// the words of `lg_answer_text` in `limbegoru.h`.
 #[derive(Clone, Copy, Debug, PartialEq, Eq, Hash)]
+#[non_exhaustive]
 pub enum Refusal {
     /// Insert: some byte is already free. Delete: some byte is not free.
     Overlap = 1,
@@ -13,7 +15,7 @@ pub enum Refusal {
     NoneFound = 2,
     /// The block land would have more ranges than its capacity.
     Full = 3,
-    /// The range or the size breaks the rules.
+    /// The range, the size or the mode breaks the rules.
     Request = 4,
     /// The handle's fixed fields or the lent lengths break the arena rules; in a flush and on a pair, also if the two
     /// lands differ in base, limit or alignment.
@@ -25,8 +27,8 @@ pub enum Refusal {
 }
 
 impl Refusal {
-    /// All refusals, in the order of their numbers.
-    pub const ALL: [Refusal; 7] = [
+    /// All refusals, in the order of their numbers, which are 1, 2 and so on.
+    pub const ALL: &'static [Refusal] = &[
         Refusal::Overlap,
         Refusal::NoneFound,
         Refusal::Full,
@@ -36,14 +38,14 @@ impl Refusal {
         Refusal::InBoth,
     ];
 
-    /// Its answer number, 1 to 7.
+    /// Its answer number.
     pub const fn number(self) -> u64 {
         self as u64
     }
 
     /// The refusal of an answer number; nothing for 0, which is accepted, and for a number that is no answer.
     pub fn from_number(number: u64) -> Option<Refusal> {
-        Refusal::ALL.into_iter().find(|refusal| refusal.number() == number)
+        Refusal::ALL.iter().copied().find(|refusal| refusal.number() == number)
     }
 
     /// The answer as a result.
@@ -61,13 +63,15 @@ impl Refusal {
 impl fmt::Display for Refusal {
     fn fmt(&self, f: &mut fmt::Formatter<'_>) -> fmt::Result {
         f.write_str(match self {
-            Refusal::Overlap => "memory was released that is already free, or taken that is not free",
-            Refusal::NoneFound => "there is no free piece of memory of that size",
-            Refusal::Full => "the table of free pieces has no room for another piece",
-            Refusal::Request => "the piece or the size asked for is not allowed in this memory",
-            Refusal::SetUp => "the memory was not set up with the right limits or the right length",
-            Refusal::Damaged => "the record of free memory has been overwritten",
-            Refusal::InBoth => "the memory to be taken is free but recorded in two places, and must be taken in parts",
+            Refusal::Overlap => "insert: some byte is already free; delete: some byte is not free",
+            Refusal::NoneFound => "no range qualifies",
+            Refusal::Full => "the block land would have more ranges than its capacity",
+            Refusal::Request => "the range, the size or the mode breaks the rules",
+            Refusal::SetUp => {
+                "the handle's fixed fields or the lent lengths break the arena rules, or two lands have two arenas"
+            }
+            Refusal::Damaged => "the list or table is not sound, or the lands of a pair overlap",
+            Refusal::InBoth => "delete on a pair: every byte is free, but neither land holds all of them",
         })
     }
 }

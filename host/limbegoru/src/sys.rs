@@ -15,6 +15,7 @@ pub type lg_pair = PairHandle;
 /// What the opening of a list land returns.
 #[repr(C)]
 #[derive(Clone, Copy, Debug, PartialEq, Eq)]
+#[must_use = "the next handle and the answer are in it"]
 pub struct lg_list_opened {
     /// The new handle.
     pub land: lg_list_land,
@@ -25,6 +26,7 @@ pub struct lg_list_opened {
 /// What an insert, a delete or a walk on a list land returns.
 #[repr(C)]
 #[derive(Clone, Copy, Debug, PartialEq, Eq)]
+#[must_use = "the next handle and the answer are in it"]
 pub struct lg_list_changed {
     /// The next handle.
     pub land: lg_list_land,
@@ -37,6 +39,7 @@ pub struct lg_list_changed {
 /// What a find on a list land returns.
 #[repr(C)]
 #[derive(Clone, Copy, Debug, PartialEq, Eq)]
+#[must_use = "the next handle and the answer are in it"]
 pub struct lg_list_found {
     /// The next handle.
     pub land: lg_list_land,
@@ -51,6 +54,7 @@ pub struct lg_list_found {
 /// What the opening of a block land returns.
 #[repr(C)]
 #[derive(Clone, Copy, Debug, PartialEq, Eq)]
+#[must_use = "the next handle and the answer are in it"]
 pub struct lg_block_opened {
     /// The new handle.
     pub land: lg_block_land,
@@ -61,6 +65,7 @@ pub struct lg_block_opened {
 /// What an insert, a delete or a walk on a block land returns.
 #[repr(C)]
 #[derive(Clone, Copy, Debug, PartialEq, Eq)]
+#[must_use = "the next handle and the answer are in it"]
 pub struct lg_block_changed {
     /// The next handle.
     pub land: lg_block_land,
@@ -73,6 +78,7 @@ pub struct lg_block_changed {
 /// What a find on a block land returns.
 #[repr(C)]
 #[derive(Clone, Copy, Debug, PartialEq, Eq)]
+#[must_use = "the next handle and the answer are in it"]
 pub struct lg_block_found {
     /// The next handle.
     pub land: lg_block_land,
@@ -87,6 +93,7 @@ pub struct lg_block_found {
 /// What a flush returns.
 #[repr(C)]
 #[derive(Clone, Copy, Debug, PartialEq, Eq)]
+#[must_use = "the next handle and the answer are in it"]
 pub struct lg_flushed {
     /// The next list handle.
     pub list: lg_list_land,
@@ -103,6 +110,7 @@ pub struct lg_flushed {
 /// What an insert or a delete on a pair returns.
 #[repr(C)]
 #[derive(Clone, Copy, Debug, PartialEq, Eq)]
+#[must_use = "the next handle and the answer are in it"]
 pub struct lg_pair_changed {
     /// The next handle.
     pub pair: lg_pair,
@@ -115,6 +123,7 @@ pub struct lg_pair_changed {
 /// What a find on a pair returns.
 #[repr(C)]
 #[derive(Clone, Copy, Debug, PartialEq, Eq)]
+#[must_use = "the next handle and the answer are in it"]
 pub struct lg_pair_found {
     /// The next handle.
     pub pair: lg_pair,
@@ -129,6 +138,8 @@ pub struct lg_pair_found {
 #[rustfmt::skip]
 #[allow(missing_docs)]
 extern "C" {
+    pub fn lg_version() -> u64;
+
     pub fn lg_list_open(base: u64, limit: u64, align: u64, words: *const u64, n: usize) -> lg_list_opened;
     pub fn lg_list_insert(land: lg_list_land, words: *mut u64, n: usize, range: lg_range) -> lg_list_changed;
     pub fn lg_list_delete(land: lg_list_land, words: *mut u64, n: usize, range: lg_range) -> lg_list_changed;

@@ -1,7 +1,8 @@
-//! The safe interface: borrowing, parts, refusals in words, ranges by walks.
+//! The safe interface: borrowing, parts, refusals in words, limits, ranges by walks.
 
 use limbegoru::{
-    flush, sys, BlockHandle, BlockLand, Found, ListHandle, ListLand, Mode, Pair, PairHandle, Range, Refusal,
+    flush, sys, BlockHandle, BlockLand, Found, ListHandle, ListLand, Mode, Pair, PairHandle, Range, Ranges, Refusal,
+    ALIGN_MAX, ALIGN_MIN, LIMIT_MAX, NODE_WORDS_MAX,
 };
 
 /// [base, limit).
@@ -171,12 +172,44 @@ fn no_words() {
 
 #[test]
 fn refusals() {
-    assert_eq!(Refusal::ALL.map(Refusal::number), [1, 2, 3, 4, 5, 6, 7]);
-    for refusal in Refusal::ALL {
-        assert_eq!(Refusal::from_number(refusal.number()), Some(refusal));
-        assert!(refusal.to_string().len() > 20);
+    for (number, &refusal) in (1..).zip(Refusal::ALL) {
+        assert_eq!(refusal.number(), number);
+        assert_eq!(Refusal::from_number(number), Some(refusal));
+        assert!(refusal.to_string().len() > 15);
     }
+    assert_eq!(Refusal::ALL.len(), 7);
     assert_eq!(Refusal::from_number(0), None);
     assert_eq!(Refusal::from_number(8), None);
-    assert_eq!(Refusal::Damaged.to_string(), "the record of free memory has been overwritten");
+    assert_eq!(Refusal::NoneFound.to_string(), "no range qualifies");
+}
+
+#[test]
+fn limits() {
+    let mut nodes = vec![0; NODE_WORDS_MAX + 1];
+    let mut open = |limit, align, words| BlockLand::open(ALIGN_MAX, limit, align, &mut nodes[..words]).err();
+    assert_eq!(open(LIMIT_MAX, ALIGN_MIN, 2), None);
+    assert_eq!(open(LIMIT_MAX + ALIGN_MIN, ALIGN_MIN, 2), Some(Refusal::SetUp));
+    assert_eq!(open(LIMIT_MAX, ALIGN_MIN / 2, 2), Some(Refusal::SetUp));
+    assert_eq!(open(LIMIT_MAX, ALIGN_MAX, 2), None);
+    assert_eq!(open(LIMIT_MAX, 2 * ALIGN_MAX, 2), Some(Refusal::SetUp));
+    assert_eq!(open(LIMIT_MAX, ALIGN_MIN, NODE_WORDS_MAX), None);
+    assert_eq!(open(LIMIT_MAX, ALIGN_MIN, NODE_WORDS_MAX + 1), Some(Refusal::SetUp));
+}
+
+/// An iterator can be kept in a struct of the host, and walks either land.
+struct Report<'a> {
+    ranges: Ranges<'a>,
+}
+
+#[test]
+fn ranges_have_a_name() -> Result<(), Refusal> {
+    let (mut words, mut nodes) = ([0; 8], [0; 2]);
+    let mut pair = pair(&mut words, &mut nodes)?;
+    pair.insert(range(4096, 4104))?;
+    pair.insert(range(4112, 4120))?;
+    let reports = [Report { ranges: pair.list().ranges() }, Report { ranges: pair.block().ranges() }];
+    let met = reports.map(|mut report| (report.ranges.next(), report.ranges.next(), report.ranges.next()));
+    assert_eq!(met[0], (Some(Ok(range(4112, 4120))), None, None));
+    assert_eq!(met[1], (Some(Ok(range(4096, 4104))), None, None));
+    Ok(())
 }

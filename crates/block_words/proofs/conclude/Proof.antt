@@ -16,6 +16,12 @@ returns c = search needs
 sound-on-requires : tie.Need-sound-on-requires
 sound-on-requires c κs = search verdict-ways
 
+enum-told-2 : tie.Need-enum-told-2
+enum-told-2 c = search needs
+
+enum-told-3 : tie.Need-enum-told-3
+enum-told-3 c = search needs
+
 returns-2 : tie.Need-returns-2
 returns-2 c = search verdict-ways
 
@@ -24,4 +30,13 @@ returns-3 c = search verdict-ways
 
 pub conclude-spec : {M : Type 1} → statement M
 conclude-spec =
-    tie.close (tie.spec enum-known-sought enum-told returns sound-on-requires returns-2 returns-3)
+    tie.close
+    (tie.spec
+    enum-known-sought
+    enum-told
+    returns
+    sound-on-requires
+    enum-told-2
+    enum-told-3
+    returns-2
+    returns-3)

@@ -4,8 +4,14 @@ use borrow.Author.Needs.{needs}
 use Rattle.block_words.proofs.survey.Statement.{statement}
 use Rattle.block_words.proofs.survey.Tie as tie
 
-is-tidy-requires : tie.Need-is-tidy-requires
-is-tidy-requires c κs = search needs
+tidy-requires : tie.Need-tidy-requires
+tidy-requires c κs = search needs
+
+enum-told : tie.Need-enum-told
+enum-told c = search needs
+
+enum-told-2 : tie.Need-enum-told-2
+enum-told-2 c = search needs
 
 returns : tie.Need-returns
 returns c = search surveys
@@ -21,4 +27,12 @@ returns-2 c = search surveys
 
 pub survey-spec : {M : Type 1} → statement M
 survey-spec =
-    tie.close (tie.spec is-tidy-requires returns aimed-requires conclude-requires returns-2)
+    tie.close
+    (tie.spec
+    tidy-requires
+    enum-told
+    enum-told-2
+    returns
+    aimed-requires
+    conclude-requires
+    returns-2)

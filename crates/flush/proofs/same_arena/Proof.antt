@@ -22,6 +22,9 @@ same-requires-3 c κs = search needs
 returns-3 : tie.Need-returns-3
 returns-3 c = search same-ways
 
+returns-4 : tie.Need-returns-4
+returns-4 c = search same-ways
+
 pub same-arena-spec : {M : Type 1} → statement M
 same-arena-spec =
-    tie.close (tie.spec same-requires returns same-requires-2 returns-2 same-requires-3 returns-3)
+    tie.close (tie.spec same-requires returns same-requires-2 returns-2 same-requires-3 returns-3 returns-4)

@@ -88,7 +88,7 @@ module _ {M : Type 1} (𝓤 : URA M) (H : Heap 𝓤) (A : Atoms 𝓤) (W : Given
   passed = (((κ′, tt), (q′, tt), tt, (h, (x, (g, tt))), (land-val h ∷ [], (s ∷ [], (from-val g ∷ [], tt)))), tt)
 
   abbrev Fact : Changed → Type 0
-  Fact r = r ≡ changed (walk-of h (x .now) (g .0))
+  Fact r = (r ≡ changed (walk-of h (x .now) (g .0))) × (x .now ≡ walk-of h (x .now) (g .0) .words)
 
   said : (r : Changed) → ent 𝓤 (ensured 𝓤 H A method.ended (method.clauses 𝓤 H A mem run) (κ′, tt) (h, (x, (g, tt))) tt r) (fact 𝓤 (Fact r))
   said r = exE 𝓤 _ (λ ws. snd∗ 𝓤 (sem 𝓤 H A (lasts method.ended (κ′, tt) (h, (x, (g, tt))) ws)) (fact 𝓤 (Fact r)))
@@ -103,7 +103,7 @@ module _ {M : Type 1} (𝓤 : URA M) (H : Heap 𝓤) (A : Atoms 𝓤) (W : Given
       → ent 𝓤 (⋆ 𝓤 H A (‵ (shown γ (r .land)) ∷ ‵ (loan κ b o γ) ∷ ‵ (flft κ q) ∷ ‵ (flft κ′ q′) ∷ [])) (Post (result-val r))
   exits r is e =
       qed W (‵ (shown γ (r .land)) ∷ ‵ (loan κ b o γ) ∷ ‵ (flft κ q) ∷ ‵ (flft κ′ q′) ∷ []) ∵
-      suffices ! _ (ends-at 𝓤 H A self.ended stayed (self.clauses 𝓤 H A mem run) W (((κ, (κ′, tt)), (q, (q′, tt)), bounds, a, vals), tt) (result-val r) r (r .land, (tt, (tt, tt))) (tt, (tt, (tt, tt)))) $ says ! (e, refl) $
+      suffices ! _ (ends-at 𝓤 H A self.ended stayed (self.clauses 𝓤 H A mem run) W (((κ, (κ′, tt)), (q, (q′, tt)), bounds, a, vals), tt) (result-val r) r (r .land, (tt, (tt, tt))) (tt, (tt, (tt, tt)))) $ says ! (e .0, refl, e .1) $
       nothing ! $ move ! (4 ∷ 0 ∷ []) $ join ! $ move ! (3 ∷ 0 ∷ []) $ join ! $ frame ! $ feqI ! (List Val) (vptr b o ∷ []) (vptr b o ∷ []) refl $ fjoin3 ! $
       nothing ! $ nothing ! $ fjoin ! $ nothing ! $ fjoin ! $ move ! (1 ∷ 0 ∷ []) $ fjoin ! $
       owned ! I.the-row (Is I.the-row) ((LL.makes I.the-type I′.the-plain) 𝓤 H A) r _ is $ move ! (1 ∷ 0 ∷ []) $ done !

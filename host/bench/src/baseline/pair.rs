@@ -196,16 +196,16 @@ fn insert_place(pair: &Pair, words: &[u64], nodes: &[u64], r: Range) -> Option<P
 #[inline(never)]
 pub fn pair_insert(mut pair: Pair, words: &mut [u64], nodes: &mut [u64], r: Range) -> Changed<Pair> {
     if !set_up_ok(&pair, words.len(), nodes.len()) {
-        return no_change(pair, SET_UP);
+        return no_change(pair, ANSWER_SET_UP);
     }
     let Some(Place { mut below, mut above, mut i, head }) = insert_place(&pair, words, nodes, r) else {
-        return no_change(pair, DAMAGED);
+        return no_change(pair, ANSWER_DAMAGED);
     };
     if !range_ok(pair.list.base, pair.list.limit, pair.list.align, r) {
-        return no_change(pair, REQUEST);
+        return no_change(pair, ANSWER_REQUEST);
     }
     if list_overlaps(below, above, r) || table_overlaps(&pair.block, nodes, i, r) {
-        return no_change(pair, OVERLAP);
+        return no_change(pair, ANSWER_OVERLAP);
     }
     if pair.list.head != 0 && flush(&mut pair, words, nodes, head) {
         i = pairs_below(&pair.block, nodes, r.base);
@@ -218,7 +218,7 @@ pub fn pair_insert(mut pair: Pair, words: &mut [u64], nodes: &mut [u64], r: Rang
         Some(all) => all,
         None => list_put(&mut pair.list, words, below, above, r),
     };
-    changed(pair, OK, all)
+    changed(pair, ANSWER_OK, all)
 }
 
 /// Are all bytes of `r` free? `met` of the list and pair i are the last that do not begin above its base, or the first.
@@ -269,22 +269,22 @@ fn delete_place(pair: &Pair, words: &[u64], nodes: &[u64], r: Range) -> Option<(
 #[inline(never)]
 pub fn pair_delete(mut pair: Pair, words: &mut [u64], nodes: &mut [u64], r: Range) -> Changed<Pair> {
     if !set_up_ok(&pair, words.len(), nodes.len()) {
-        return no_change(pair, SET_UP);
+        return no_change(pair, ANSWER_SET_UP);
     }
     let Some((below, met, behind)) = delete_place(&pair, words, nodes, r) else {
-        return no_change(pair, DAMAGED);
+        return no_change(pair, ANSWER_DAMAGED);
     };
     if !range_ok(pair.list.base, pair.list.limit, pair.list.align, r) {
-        return no_change(pair, REQUEST);
+        return no_change(pair, ANSWER_REQUEST);
     }
     if r.limit <= met.limit {
         list_take(&mut pair.list, words, below, met, r);
-        return changed(pair, OK, Range { base: met.base, limit: met.limit });
+        return changed(pair, ANSWER_OK, Range { base: met.base, limit: met.limit });
     }
     if behind == 0 || nodes[2 * behind - 1] < r.limit {
         let from = if met.base != 0 { met } else { node_at(&pair.list, words, pair.list.head) };
         let free = all_free(&pair, words, nodes, from, behind.saturating_sub(1), r);
-        return no_change(pair, if free { IN_BOTH } else { OVERLAP });
+        return no_change(pair, if free { ANSWER_IN_BOTH } else { ANSWER_OVERLAP });
     }
     let old = Range { base: nodes[2 * behind - 2], limit: nodes[2 * behind - 1] };
     if old.base < r.base && r.limit < old.limit && pair.block.ranges as usize == nodes.len() / 2 {
@@ -292,7 +292,7 @@ pub fn pair_delete(mut pair: Pair, words: &mut [u64], nodes: &mut [u64], r: Rang
     } else {
         block_take(&mut pair.block, nodes, behind - 1, old, r);
     }
-    changed(pair, OK, old)
+    changed(pair, ANSWER_OK, old)
 }
 
 /// Where a find came to rest.
@@ -342,18 +342,18 @@ fn find_place(pair: &Pair, words: &[u64], nodes: &[u64], size: u64) -> Option<Re
 #[inline(never)]
 pub fn pair_find_first(mut pair: Pair, words: &mut [u64], nodes: &mut [u64], size: u64, mode: u64) -> Found<Pair> {
     if !set_up_ok(&pair, words.len(), nodes.len()) {
-        return not_found(pair, SET_UP);
+        return not_found(pair, ANSWER_SET_UP);
     }
     let Some(rest) = find_place(&pair, words, nodes, size) else {
-        return not_found(pair, DAMAGED);
+        return not_found(pair, ANSWER_DAMAGED);
     };
     if !find_ok(pair.list.align, size, mode) {
-        return not_found(pair, REQUEST);
+        return not_found(pair, ANSWER_REQUEST);
     }
     let old = match rest {
         Rest::List { met, .. } => Range { base: met.base, limit: met.limit },
         Rest::Table(i) => Range { base: nodes[2 * i], limit: nodes[2 * i + 1] },
-        Rest::Nowhere => return not_found(pair, NONE),
+        Rest::Nowhere => return not_found(pair, ANSWER_NONE),
     };
     let range = part(old, size, mode);
     match rest {
@@ -362,5 +362,5 @@ pub fn pair_find_first(mut pair: Pair, words: &mut [u64], nodes: &mut [u64], siz
         Rest::Table(i) => block_take(&mut pair.block, nodes, i, old, range),
         Rest::Nowhere => {}
     }
-    Found { land: pair, answer: OK, range, old }
+    Found { land: pair, answer: ANSWER_OK, range, old }
 }

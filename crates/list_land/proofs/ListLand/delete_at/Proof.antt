@@ -5,7 +5,7 @@ use borrow.Author.Needs.{needs}
 use Rattle.model.proofs.Checks.{range-bad, range-good}
 use Rattle.model.specs.Calls.{good-range}
 use Rattle.list_land.specs.Layout.{arenaOf}
-use Rattle.list_land.proofs.DeleteAnswers.{delete-4, delete-behind, delete-before, delete-holding, delete-0}
+use Rattle.list_land.proofs.EditAnswers.{delete-4, delete-asks, delete-1, delete-0}
 use Rattle.list_land.proofs.Requests.{sought-positive, sought-align}
 use Rattle.list_land.proofs.ListLand.delete_at.Statement.{statement}
 use Rattle.list_land.proofs.ListLand.delete_at.Tie as tie
@@ -35,57 +35,48 @@ returns c =
     (range-bad (arenaOf (entry .args .self)) _ (c .before .before .before .good-arena .ensures) (entry .args .range) _ (c .before .before .check-range .ensures) (c .before .match .keys2))
     _ (c .refused .ensures)
 
-is-zero-requires : tie.Need-is-zero-requires
-is-zero-requires c κs = search needs
+chain-requires : tie.Need-chain-requires
+chain-requires c κs = search needs
+
+cut-out-requires : tie.Need-cut-out-requires
+cut-out-requires c κs =
+    let checked = c .before .before in
+    let entry = checked .before .before .before .before .before in
+    delete-asks _ _ (entry .args .range) _ (entry .pre) (good checked) _ (checked .before .before .before .good-arena .ensures) _ (c .chain .ensures)
+
+enum-known-c : tie.Need-enum-known-c
+enum-known-c c = search needs
+
+enum-told-2 : tie.Need-enum-told-2
+enum-told-2 c = search needs
 
 refused-requires-2 : tie.Need-refused-requires-2
 refused-requires-2 c κs = search needs
 
+same-length : tie.Need-same-length
+same-length c = search needs
+
 returns-2 : tie.Need-returns-2
 returns-2 c =
-    let checked = c .before .before .before .before in
+    let cut = c .before .before .before .before .before in
+    let checked = cut .before .before .before in
     let entry = checked .before .before .before .before .before in
-    delete-behind _ _ (entry .args .range) _ (entry .pre) (good checked) _ (c .before .before .is-zero .ensures) (c .before .if1 .taken) _ (c .refused2 .ensures)
-
-lt-requires : tie.Need-lt-requires
-lt-requires c κs = search needs
-
-refused-requires-3 : tie.Need-refused-requires-3
-refused-requires-3 c κs = search needs
-
-returns-3 : tie.Need-returns-3
-returns-3 c =
-    let checked = c .before .before .before .before .before .before in
-    let entry = checked .before .before .before .before .before in
-    delete-before _ _ (entry .args .range) _ (entry .pre) (good checked) _ (c .before .before .before .before .is-zero .ensures)
-    (c .before .before .before .if1 .left) _ (c .before .before .lt .ensures) (c .before .if2 .taken) _ (c .refused3 .ensures)
-
-chain-requires : tie.Need-chain-requires
-chain-requires c κs = search needs
-
-cut-at-requires : tie.Need-cut-at-requires
-cut-at-requires c κs =
-    let held = c .before .before in
-    let checked = held .before .before .before .before .before in
-    let entry = checked .before .before .before .before .before in
-    delete-holding _ _ (entry .args .range) _ (entry .pre) (good checked) _ (held .before .before .before .is-zero .ensures) (held .before .before .if1 .left)
-    _ (held .before .lt .ensures) (held .if2 .left) _ (checked .before .before .before .good-arena .ensures) _ (c .chain .ensures)
+    delete-1 _ _ (entry .args .range) _ (entry .pre) (good checked) _ (checked .before .before .before .good-arena .ensures) _ (cut .before .chain .ensures) _ _
+    (cut .cut-out .ensures) (c .before .enum-told2 .given .1) _ (c .refused2 .ensures)
 
 close-requires : tie.Need-close-requires
 close-requires c κs = search needs
 
-same-length : tie.Need-same-length
-same-length c = search needs
+same-length-2 : tie.Need-same-length-2
+same-length-2 c = search needs
 
-returns-4 : tie.Need-returns-4
-returns-4 c =
-    let cut = c .before .before .before in
-    let held = cut .before .before .before in
-    let checked = held .before .before .before .before .before in
+returns-3 : tie.Need-returns-3
+returns-3 c =
+    let cut = c .before .before .before .before .before .before in
+    let checked = cut .before .before .before in
     let entry = checked .before .before .before .before .before in
-    delete-0 _ _ (entry .args .range) _ (entry .pre) (good checked) _ (held .before .before .before .is-zero .ensures) (held .before .before .if1 .left)
-    _ (held .before .lt .ensures) (held .if2 .left) _ (checked .before .before .before .good-arena .ensures) _ (cut .before .chain .ensures) _ _ (cut .cut-at .ensures)
-    _ (c .close .ensures)
+    delete-0 _ _ (entry .args .range) _ (entry .pre) (good checked) _ (checked .before .before .before .good-arena .ensures) _ (cut .before .chain .ensures) _ _
+    (cut .cut-out .ensures) _ _ (c .before .before .c .given .1) _ (c .close .ensures)
 
 pub delete-at-spec : {M : Type 1} → statement M
 delete-at-spec =
@@ -96,14 +87,13 @@ delete-at-spec =
     enum-told
     refused-requires
     returns
-    is-zero-requires
-    refused-requires-2
-    returns-2
-    lt-requires
-    refused-requires-3
-    returns-3
     chain-requires
-    cut-at-requires
-    close-requires
+    cut-out-requires
+    enum-known-c
+    enum-told-2
+    refused-requires-2
     same-length
-    returns-4)
+    returns-2
+    close-requires
+    same-length-2
+    returns-3)

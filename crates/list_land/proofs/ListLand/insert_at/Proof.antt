@@ -5,7 +5,7 @@ use borrow.Author.Needs.{needs}
 use Rattle.model.proofs.Checks.{range-bad, range-good}
 use Rattle.model.specs.Calls.{good-range}
 use Rattle.list_land.specs.Layout.{arenaOf}
-use Rattle.list_land.proofs.InsertAnswers.{insert-4, insert-asks, insert-1, insert-0}
+use Rattle.list_land.proofs.EditAnswers.{insert-4, insert-asks, insert-1, insert-0}
 use Rattle.list_land.proofs.Requests.{sought-positive, sought-align}
 use Rattle.list_land.proofs.ListLand.insert_at.Statement.{statement}
 use Rattle.list_land.proofs.ListLand.insert_at.Tie as tie

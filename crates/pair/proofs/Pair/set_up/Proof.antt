@@ -34,9 +34,6 @@ same-arena-requires c κs = search needs
 returns-3 : tie.Need-returns-3
 returns-3 c = search ups
 
-returns-4 : tie.Need-returns-4
-returns-4 c = search ups
-
 pub set-up-spec : {M : Type 1} → statement M
 set-up-spec =
     tie.close
@@ -50,5 +47,4 @@ set-up-spec =
     enum-told-4
     returns-2
     same-arena-requires
-    returns-3
-    returns-4)
+    returns-3)

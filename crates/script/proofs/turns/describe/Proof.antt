@@ -15,7 +15,7 @@ same-length : tie.Need-same-length
 same-length c = search needs
 
 returns : tie.Need-returns
-returns c = described-fault _ _ _ (c .before .before .before .before .before .before .walk .result) (c .before .before .before .before .before .before .walk .ensures) (omega arith) (c .before .before .put-three .ensures)
+returns c = described-fault _ _ _ (c .before .before .before .before .before .before .walk .result) (c .before .before .before .before .before .before .walk .ensures .0) (omega arith) (c .before .before .put-three .ensures)
 
 number-requires : tie.Need-number-requires
 number-requires c κs = search needs
@@ -27,7 +27,7 @@ same-length-2 : tie.Need-same-length-2
 same-length-2 c = search needs
 
 returns-2 : tie.Need-returns-2
-returns-2 c = described-sound _ _ _ (c .before .before .before .before .before .before .before .walk .result) (c .before .before .before .before .before .before .before .walk .ensures) (omega arith) _ (c .before .before .before .number .ensures) (c .before .before .put-three2 .ensures)
+returns-2 c = described-sound _ _ _ (c .before .before .before .before .before .before .before .walk .result) (c .before .before .before .before .before .before .before .walk .ensures .0) (omega arith) _ (c .before .before .before .number .ensures) (c .before .before .put-three2 .ensures)
 
 pub describe-spec : {M : Type 1} → statement M
 describe-spec =

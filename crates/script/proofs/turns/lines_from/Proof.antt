@@ -26,7 +26,7 @@ same-length : tie.Need-same-length Inv-loop μ-loop
 same-length c = search needs
 
 returns : tie.Need-returns Inv-loop μ-loop
-returns c = tell-end _ _ _ _ _ _ _ (c .before .before .before .before .loop .inv) (c .before .before .walk .result) (c .before .before .walk .ensures) (c .if1 .taken) (omega arith)
+returns c = tell-end _ _ _ _ _ _ _ (c .before .before .before .before .loop .inv) (c .before .before .walk .result) (c .before .before .walk .ensures .0) (c .if1 .taken) (omega arith)
 
 number-requires : tie.Need-number-requires Inv-loop μ-loop
 number-requires c κs = search needs
@@ -42,7 +42,7 @@ loop-less c = omega (arith, tell-less _ _ _ (c .before .before .put-two .ensures
 
 loop-again : tie.Need-loop-again Inv-loop μ-loop
 loop-again c =
-    tell-next _ _ _ _ _ _ _ (c .before .before .before .before .before .before .before .before .before .before .before .before .loop .inv) (c .before .before .before .before .before .before .before .before .before .before .walk .result) (c .before .before .before .before .before .before .before .before .before .before .walk .ensures) (c .before .before .before .before .before .before .before .before .if1 .left) _ _ (c .before .before .before .before .number .ensures) (c .before .before .before .number2 .ensures) (omega arith) _ _
+    tell-next _ _ _ _ _ _ _ (c .before .before .before .before .before .before .before .before .before .before .before .before .loop .inv) (c .before .before .before .before .before .before .before .before .before .before .walk .result) (c .before .before .before .before .before .before .before .before .before .before .walk .ensures .0) (c .before .before .before .before .before .before .before .before .if1 .left) _ _ (c .before .before .before .before .number .ensures) (c .before .before .before .number2 .ensures) (omega arith) _ _
     (c .before .before .put-two .ensures)
 
 same-length-2 : tie.Need-same-length-2 Inv-loop μ-loop
