@@ -1,7 +1,7 @@
 -- Contracts of the program's parts. Assumes nothing.
 use mathlib.Core.Bool.{false}
 use mathlib.Core.Path.{_≡_}
-use Rattle.script.specs.Feeding.{is-describing}
+use Rattle.script.specs.Calls.{is-describing}
 use Rattle.script.specs.declared.Script.{Script}
 use Rattle.play.specs.declared.Step.{Step}
 

@@ -1,8 +1,10 @@
 // Plays the requests of standard input on one list land of at most 4,096 words, and writes the answers to standard output.
 //
 // What is printed for which input is proved in `script`; this program reads, lends and writes. It assumes the contracts of
-// libc's read and write, and nothing else.
+// the kit's libc and os, and nothing else. Where an input cannot be read or an answer not be written, it says so in a line on
+// standard error and ends; else `streams` tells whoever started it that all was written.
 use script::Script;
+use streams::Input;
 ghost use Prim.Native.Nat.{_≤_};
 ghost use lib.ListN.{length};
 ghost use Rattle.play.specs.Steps.{Still, Stills};
@@ -15,11 +17,14 @@ pub enum Step {
 }
 
 // Writes the first n bytes of the buffer.
-fn put_out(out: &[u8], n: usize) -> bool {
-    if out.len() < n {
-        return false;
+fn put_out(out: &[u8], n: usize) -> bool
+    requires { ⌜ n ≤ length (now out) ⌝ }
+{
+    if streams::write(libc::STDOUT_FILENO, &out[..n]) {
+        return true;
     }
-    io::write_all(1, &out[..n])
+    os::fail(b"play: answers are missing: writing standard output");
+    false
 }
 
 // Prints a description to its end.
@@ -66,22 +71,31 @@ fn read_on(script: Script, words: &mut [u64], out: &mut [u8], space: &mut [u8]) 
     requires { ⌜ Still script ⌝ }
     ensures { λ r. ⌜ Stills r ⌝ }
 {
-    let got = libc::read(0, space);
-    if got <= 0 {
-        return Step::Ended(script);
+    match streams::read(libc::STDIN_FILENO, space) {
+        Input::Bytes(n) => feed(script, words, out, &space[..n]),
+        Input::End => Step::Ended(script),
+        Input::Failed => {
+            os::fail(b"play: answers are missing: reading standard input");
+            Step::Broken
+        }
     }
-    let n = io::count(got, space);
-    feed(script, words, out, &space[..n])
 }
 
 // The end of the input.
-fn finish(script: Script, out: &mut [u8]) {
+fn finish(script: Script, out: &mut [u8]) -> bool {
     let n = script.end(out);
-    put_out(out, n);
+    if !put_out(out, n) {
+        return false;
+    }
+    if streams::close(libc::STDOUT_FILENO) {
+        return true;
+    }
+    os::fail(b"play: answers are missing: closing standard output");
+    false
 }
 
-// The whole input. Each turn reads a byte at least: no input comes near the bound.
-fn run(words: &mut [u64], out: &mut [u8], space: &mut [u8])
+// The whole input: whether every answer was written. Each turn reads a byte at least: no input comes near the bound.
+fn run(words: &mut [u64], out: &mut [u8], space: &mut [u8]) -> bool
     requires { ⌜ 105 ≤ length (now out) ⌝ }
 {
     let mut script = Script::new();
@@ -89,19 +103,19 @@ fn run(words: &mut [u64], out: &mut [u8], space: &mut [u8])
     while turns > 0 {
         match read_on(script, words, out, space) {
             Step::More(next) => script = next,
-            Step::Ended(last) => {
-                finish(last, out);
-                return;
-            }
-            Step::Broken => return,
+            Step::Ended(last) => return finish(last, out),
+            Step::Broken => return false,
         }
         turns -= 1;
     }
+    false
 }
 
 fn main() {
     let mut words = [0u64; 4096];
     let mut out = io::large_buffer();
     let mut space = io::large_buffer();
-    run(&mut words, &mut out, &mut space);
+    if run(&mut words, &mut out, &mut space) && !streams::tell_done() {
+        os::fail(b"play: saying that all answers were written");
+    }
 }

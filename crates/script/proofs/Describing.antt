@@ -1,7 +1,7 @@
 -- A description that goes on from each range's limit prints every range once. Assumes nothing.
 use Prim.Native.Nat.{ℕ, suc, _≤_, _<_}
 use mathlib.Core.Bool.{true}
-use mathlib.Core.List.{List, [], _∷_, _++_}
+use mathlib.Core.List.{List, [], _∷_}
 use mathlib.Core.Option.{Option, none, some}
 use mathlib.Core.Path.{_≡_, refl, sym, _∙_}
 use native.Mathlib.Omega.{arith}
@@ -26,7 +26,7 @@ use Rattle.list_land.proofs.Answers.{is-walk}
 use Rattle.list_land.proofs.LayoutLaws.{reads-5, reads-6, held}
 use Rattle.list_land.proofs.Sound.{Fine, fine}
 use Rattle.texts.specs.Decimal.{line}
-use Rattle.script.specs.Printed.{Turned, describe-turn, lines-from}
+use Rattle.script.specs.Printed.{Turned, describe-turn, ranges-from}
 use Rattle.script.specs.declared.Stage.{Stage}
 
 -- FROM A NUMBER ON
@@ -50,6 +50,9 @@ from-some x lo hi (r ∷ rs) q h e =
     (rw (f, ← g, lt-leb (r .limit) (r .base) (h .1), from-all x (suc (r .limit)) hi rs (omega tests) (h .3), from-all (r .limit) (suc (r .limit)) hi rs (omega arith) (h .3)), rw (← g) (h .0), rw (← g) (h .1)))
     (λ f. let w = from-some x (suc (r .limit)) hi rs q (h .3) (rw f at e) in
     (rw (f, lt-leb (q .limit) (r .base) (omega arith)) (w .0), omega arith, w .2))
+
+none-cons : {P : Type 0} {r : Range} {rs : List Range} → [] ≡ r ∷ rs → P
+none-cons e = let z : _≡_ {A = ℕ} 0 1 = cc in absurd (omega arith)
 
 -- WHAT A WALK SAYS OF A LAND
 module _ (h : ListLand) (ws : List ℕ) (x : ℕ) where
@@ -88,20 +91,32 @@ module _ (h : ListLand) (ws : List ℕ) (x : ℕ) where
 
   -- a walk that is answered 0 met the next range to print
   pub goes-on : walked h ws x .out .answer ≡ 0 →
-      lines-from x (readOf h ws)
-      ≡ line (walked h ws x .out .found .base ∷ walked h ws x .out .found .limit ∷ []) ++ lines-from (walked h ws x .out .found .limit) (readOf h ws)
+      ranges-from x (readOf h ws) ≡ walked h ws x .out .found ∷ ranges-from (walked h ws x .out .found .limit) (readOf h ws)
   goes-on z = go met
     where
-      go : Met → lines-from x (readOf h ws) ≡ line (walked h ws x .out .found .base ∷ walked h ws x .out .found .limit ∷ []) ++ lines-from (walked h ws x .out .found .limit) (readOf h ws)
+      go : Met → ranges-from x (readOf h ws) ≡ walked h ws x .out .found ∷ ranges-from (walked h ws x .out .found .limit) (readOf h ws)
       go (bad n k r o) = absurd (omega (arith, rw o at z))
       go (none-left f r e o) = absurd (omega (arith, rw o at z))
-      go (one-left q f r e o) = rw (r, o, from-some x (base h) (limit h) (walkOf h ws .met) q (f .apart) e .0)
+      go (one-left q f r e o) = rw (r, o) (from-some x (base h) (limit h) (walkOf h ws .met) q (f .apart) e .0)
+
+  -- the ranges behind the first are those from its limit on
+  pub next-ranges : (q : Range) (rs : List Range) → ranges-from x (readOf h ws) ≡ q ∷ rs → ranges-from (q .limit) (readOf h ws) ≡ rs
+  next-ranges q rs p = go met
+    where
+      go : Met → ranges-from (q .limit) (readOf h ws) ≡ rs
+      go (bad n k r o) = none-cons (rw r at p)
+      go (none-left f r e o) = none-cons (sym (from-none x (walkOf h ws .met) e) ∙ (rw r at p))
+      go (one-left w f r e o) =
+          let s : w ∷ from (w .limit) (walkOf h ws .met) ≡ q ∷ rs = sym (from-some x (base h) (limit h) (walkOf h ws .met) w (f .apart) e .0) ∙ (rw r at p) in
+          let head : w ≡ q = cc in
+          let tail : from (w .limit) (walkOf h ws .met) ≡ rs = cc in
+          rw (r, ← head) tail
 
   -- one with any other answer: nothing is left to print
-  pub ends : (walked h ws x .out .answer ≡ 0 → ⊥) → lines-from x (readOf h ws) ≡ []
+  pub ends : (walked h ws x .out .answer ≡ 0 → ⊥) → ranges-from x (readOf h ws) ≡ []
   ends z = go met
     where
-      go : Met → lines-from x (readOf h ws) ≡ []
+      go : Met → ranges-from x (readOf h ws) ≡ []
       go (bad n k r o) = rw r
       go (none-left f r e o) = rw (r, from-none x (walkOf h ws .met) e)
       go (one-left q f r e o) = absurd (z (rw o))

@@ -1,29 +1,31 @@
--- An input taken in parts. Assumes nothing.
+-- An input taken in parts, line after line. Assumes nothing.
 use Prim.Native.Nat.{ℕ, suc, _+_, _-_, _≤_, _<_}
 use mathlib.Core.Bool.{Bool, true, false}
-use mathlib.Core.List.{List, [], _∷_, _++_, append-assoc}
+use mathlib.Core.List.{List, [], _∷_, _++_, append-nil}
 use mathlib.Core.Path.{_≡_, refl, sym, ap, _∙_}
 use native.Mathlib.Omega.{arith}
-use native.Mathlib.Numerals.{add-one}
-use borrow.Author.Tests.{leb-true, eqb-true, eqb-false, not-true}
-use lib.Dec.{leb, eqb}
-use lib.ListN.{length, take, drop, take-append-drop}
-use lib.Seq.{drop-cons, drop-drop}
-use Rattle.units.proofs.Tests.{by, clash, and-left, and-right}
-use Rattle.lines.specs.Requests.{newline, split}
-use Rattle.lines.specs.Reading.{ReadTo, at-start, request-in, begun-in}
+use borrow.Author.Tests.{leb-true}
+use lib.ListN.{length, take, drop, take-append-drop, length-drop, drop-of-length-le}
+use lib.Seq.{drop-cons, drop-drop, length-take-le}
+use Rattle.units.proofs.Tests.{clash, and-left}
+use Rattle.lines.specs.Requests.{newline}
+use Rattle.lines.specs.Reading.{ReadTo, at-start, request-in}
 use Rattle.lines.specs.declared.Read.{Read}
 use Rattle.lines.specs.declared.Reader.{Reader}
 use Rattle.lines.specs.declared.Request.{Request}
-use Rattle.texts.specs.Writing.{Wrote}
-use Rattle.texts.proofs.Writing.{wrote-then}
-use Rattle.script.specs.Printed.{turn-of, pending, settled}
-use Rattle.script.specs.Feeding.{Plays, Leaves, Goes, Moves, Uses, Ends, is-describing, is-ready, printed-from, rest-of, script-start}
+use Rattle.texts.proofs.Writing.{same-behind}
+use Rattle.script.specs.Printed.{turn-of}
+use Rattle.script.specs.Calls.{Done, fedOf, over, behind, at-rest, fed, is-ready, script-start}
+use Rattle.script.specs.Feeding.{Plays, Goes, Moves}
 use Rattle.script.specs.declared.Fed.{Fed}
 use Rattle.script.specs.declared.Script.{Script}
 use Rattle.script.specs.declared.Stage.{Stage}
 use Rattle.script.specs.declared.Turn.{Turn}
-use Rattle.script.proofs.Continuing.{after-part, after-newline}
+use Rattle.script.proofs.Buffers.{text-end, text-over}
+use Rattle.script.proofs.FedOn.{behind-behind, behind-none, fed-same, fed-part, fed-line, fed-stops}
+
+pub new-script : (r : Reader) → r ≡ at-start → record { stage = Stage.Closed; reader = r } ≡ script-start
+new-script r e = rw e
 
 -- the bytes from a position on, in two parts
 parts : (bytes : List ℕ) (from to : ℕ) → from ≤ to → drop from bytes ≡ take (to - from) (drop from bytes) ++ drop to bytes
@@ -36,74 +38,44 @@ module _ (s : Script) (ws bytes : List ℕ) (from : ℕ) (o : Read) (t : ReadTo 
   abbrev pub reader-on : Script
   reader-on = record { stage = s .stage; reader = o .reader }
 
-  read-on : (more : List ℕ) → rest-of s ws (drop from bytes ++ more) ≡ rest-of reader-on ws (drop (o .at) bytes ++ more)
-  read-on more =
-      let l = take (o .at - from) (drop from bytes) in
-      let e : drop from bytes ++ more ≡ l ++ (drop (o .at) bytes ++ more) =
-      ap (λ (v : List ℕ). v ++ more) (parts bytes from (o .at) (t .start)) ∙ append-assoc l (drop (o .at) bytes) more in
-      rw e
-      (ap (λ (v : List ℕ). pending (s .stage) ws ++ v)
-      (after-part (s .reader) (settled (s .stage)) ws l (drop (o .at) bytes ++ more) (t .line) ∙ rw (← t .reader)))
+  module _ (out : List ℕ) (at : ℕ) where
+    read-on :
+        behind from (take at out) (fed s ws (length out - at) (drop from bytes))
+        ≡ behind (o .at) (take at out) (fed reader-on ws (length out - at) (drop (o .at) bytes))
+    read-on =
+        let l = take (o .at - from) (drop from bytes) in
+        let a = t .start in
+        let b = t .fits in
+        let n = length-drop from bytes in
+        let m = length-take-le (o .at - from) (drop from bytes) (omega arith) in
+        let u : length l + from ≡ o .at = omega arith in
+        let rest = fed reader-on ws (length out - at) (drop (o .at) bytes) in
+        let e : fed s ws (length out - at) (drop from bytes) ≡ behind (length l) [] rest =
+        ap (fed s ws (length out - at)) (parts bytes from (o .at) a) ∙ fed-part s ws (length out - at) l (drop (o .at) bytes) (t .line) ∙ rw (← t .reader) in
+        ap (behind from (take at out)) e ∙ behind-behind from (length l) (take at out) [] rest ∙ rw (u, append-nil (take at out))
 
-  module _ (out : List ℕ) (at : ℕ) (k : at ≤ length out) where
     -- it stops behind a part of a line
-    pub line-part : (full : Bool) → Goes s ws bytes from out at (record { script = reader-on; used = o .at; at = at; full = full }) ws out
-    line-part full = record {
-      later = t .start;
-      used = t .fits;
-      fits = k;
-      size = refl;
-      text = λ more. ap (λ (v : List ℕ). take at out ++ v) (read-on more);
-    }
+    pub line-part : (full : Bool) → at ≤ length out → Goes s ws bytes from out at (record { script = reader-on; used = o .at; at = at; full = full }) ws out
+    line-part full k = record { later = t .start; used = t .fits; further = omega arith; fits = k; size = refl; rest = refl; same = read-on }
 
--- IT DOES NOT STAND STILL
-module _ (s : Script) (bytes : List ℕ) (from : ℕ) (out : List ℕ) (at : ℕ) (f : Fed) where
-  pub moves-on : (from < length bytes → from < f .used) → Moves s bytes from out at f
-  moves-on g = record { onward = λ k e. let m = g k in omega arith; ready = λ k e. let m = g k in omega arith }
+  here : (o .at ≡ length bytes → ⊥) → o .at < length bytes
+  here inside = let u = t .fits in omega (arith, inside)
 
-  pub moves-full : f .full ≡ true → (d : Bool) → d ≡ is-ready (s .stage) (length out - at) → d ≡ false → Moves s bytes from out at f
-  moves-full e d ed nd = record { onward = λ k g. clash e g; ready = λ k g. clash g (sym ed ∙ nd) }
+  at-newline : (o .at ≡ length bytes → ⊥) → drop (o .at) bytes ≡ newline ∷ drop (suc (o .at)) bytes
+  at-newline inside = drop-cons bytes (o .at) 0 (here inside) ∙ rw (t .stop (here inside))
 
--- after the first turns of `feed`
-pub record Begun (s : Script) (f : Fed) : Type 0 where
-  pub more : f .full ≡ false
-  pub start : f .used ≡ 0 → (f .script ≡ s) × (f .at ≡ 0)
+  -- the line cannot be played
+  pub line-stops : (out : List ℕ) (at : ℕ) (d : Bool) → d ≡ is-ready (s .stage) (length out - at) → d ≡ false → (o .at ≡ length bytes → ⊥) →
+      Moves bytes from out (record { script = reader-on; used = o .at; at = at; full = true }) ws
+  line-stops out at d ed shut inside = record {
+    onward = λ k z. let t : true ≡ false = z in clash refl t;
+    stops = λ e. ap (fed reader-on ws (length out - at)) (at-newline inside) ∙ fed-stops reader-on ws (length out - at) (drop (suc (o .at)) bytes) (sym ed ∙ shut);
+  }
 
-pub begun-start : (s : Script) → Begun s (record { script = s; used = 0; at = 0; full = false })
-begun-start s = record { more = refl; start = λ e. (refl, refl) }
-
-pub begun-next : (s : Script) (f g : Fed) → f .used < g .used → g .full ≡ false → Begun s g
-begun-next s f g k e = record { more = e; start = λ z. absurd (omega arith) }
-
-pub uses-all : (s : Script) (bytes out : List ℕ) (f : Fed) → f .used ≤ length bytes → length bytes ≤ f .used → Uses s bytes out f
-uses-all s bytes out f k m = record { all = λ e. omega arith; some = λ n e. omega arith }
-
-pub uses-some : (s : Script) (bytes out out' : List ℕ) (f g : Fed) → Begun s f → length out' ≡ length out → f .used < length bytes → f .used ≤ g .used → g .full ≡ true →
-    Moves (f .script) bytes (f .used) out' (f .at) g → Uses s bytes out g
-uses-some s bytes out out' f g b n k m full v = record {
-  all = λ e. clash full e;
-  some = λ z e. by (eqb (f .used) 0)
-      (λ t. let w = b .start (eqb-true (f .used) 0 t) in
-      let l : length out' - f .at ≡ length out = omega (arith, w .1) in
-      let r : is-ready (f .script .stage) (length out' - f .at) ≡ true = rw (w .0, l) e in
-      let u = v .ready k r in omega arith)
-      (λ t. let u = eqb-false (f .used) 0 t in omega (arith, u));
-}
+pub moves-on : (bytes : List ℕ) (from : ℕ) (out : List ℕ) (f : Fed) (ws : List ℕ) → f .full ≡ false → (from < length bytes → from < f .used) → Moves bytes from out f ws
+moves-on bytes from out f ws e g = record { onward = λ k m. g k; stops = λ t. clash t e }
 
 -- A LINE
-quiet : (s : Stage) (r : Reader) (ws input : List ℕ) → is-describing s ≡ false → rest-of (record { stage = s; reader = r }) ws input ≡ printed-from r s ws (split newline input)
-quiet Stage.Closed r ws input e = refl
-quiet (Stage.Open h) r ws input e = refl
-quiet (Stage.Describing h x) r ws input e = let y : _≡_ {A = ℕ} 0 1 = cc in absurd (omega arith)
-
-newline-rest : (s : Stage) (r : Reader) (ws more : List ℕ) → is-describing s ≡ false →
-    rest-of (record { stage = s; reader = r }) ws (newline ∷ more)
-    ≡ turn-of s ws (request-in r) .text ++ rest-of (record { stage = turn-of s ws (request-in r) .stage; reader = at-start }) (turn-of s ws (request-in r) .words) more
-newline-rest s r ws more e = quiet s r ws (newline ∷ more) e ∙ after-newline r s ws more
-
-still : (s : Stage) (room : ℕ) → is-ready s room ≡ true → is-describing s ≡ false
-still s room e = not-true (is-describing s) (and-right (leb 105 room) _ e)
-
 pub has-room : (s : Stage) (out : List ℕ) (at : ℕ) (d : Bool) → d ≡ is-ready s (length out - at) → d ≡ true → at + 105 ≤ length out
 has-room s out at d e f = let g = leb-true 105 (length out - at) (and-left _ _ (sym e ∙ f)) in omega arith
 
@@ -111,74 +83,91 @@ module _ (s : Script) (ws bytes : List ℕ) (from : ℕ) (o : Read) (t : ReadTo 
     (d : Bool) (ed : d ≡ is-ready (s .stage) (length out - at)) (yes : d ≡ true) (inside : o .at ≡ length bytes → ⊥)
     (q : Request) (eq : q ≡ request-in (o .reader)) (r : Turn) (ws' out' : List ℕ)
     (p : Plays (turn-of (s .stage) ws q) ws' out at out' r) (rd : Reader) (er : rd ≡ at-start) where
-  here : o .at < length bytes
-  here = let u = t .fits in omega (arith, inside)
+  abbrev after : Done
+  after = fed (record { stage = r .stage; reader = rd }) ws' (length out - r .at) (drop (o .at + 1) bytes)
 
-  at-newline : drop (o .at) bytes ≡ newline ∷ drop (suc (o .at)) bytes
-  at-newline = drop-cons bytes (o .at) 0 here ∙ rw (t .stop here)
-
-  played-text : (more : List ℕ) →
-      take at out ++ rest-of (reader-on s ws bytes from o t) ws (drop (o .at) bytes ++ more)
-      ≡ take (r .at) out' ++ rest-of (record { stage = r .stage; reader = rd }) ws' (drop (o .at + 1) bytes ++ more)
-  played-text more =
-      let e = still (s .stage) (length out - at) (sym ed ∙ yes) in
-      let n = newline-rest (s .stage) (o .reader) ws (drop (suc (o .at)) bytes ++ more) e in
-      let w = p .says .wrote .text-there in
-      rw (at-newline, n, er, p .says .stage, p .words, w, eq, add-one)
-      (sym (append-assoc (take at out) (turn-of (s .stage) ws (request-in (o .reader)) .text) (rest-of (record { stage = turn-of (s .stage) ws (request-in (o .reader)) .stage; reader = at-start }) (turn-of (s .stage) ws (request-in (o .reader)) .words) (drop (suc (o .at)) bytes ++ more))))
+  played : fed (reader-on s ws bytes from o t) ws (length out - at) (drop (o .at) bytes) ≡ behind 1 (turn-of (s .stage) ws q .text) after
+  played =
+      let end = p .says .wrote .end in
+      let turn = turn-of (s .stage) ws q in
+      let room : length out - r .at ≡ (length out - at) - length (turn .text) = omega arith in
+      let line : fed (reader-on s ws bytes from o t) ws (length out - at) (drop (o .at) bytes) ≡ behind 1 (turn .text) (fed (record { stage = turn .stage; reader = at-start }) (turn .words) ((length out - at) - length (turn .text)) (drop (suc (o .at)) bytes)) =
+      ap (fed (reader-on s ws bytes from o t) ws (length out - at)) (at-newline s ws bytes from o t inside)
+      ∙ fed-line (reader-on s ws bytes from o t) ws (length out - at) (drop (suc (o .at)) bytes) (sym ed ∙ yes)
+      ∙ rw eq in
+      line ∙ ap (behind 1 (turn .text)) (fed-same {k = suc (o .at)} {k' = o .at + 1} bytes (sym (p .says .stage)) (sym er) (sym (p .words)) (sym room) (omega arith))
 
   pub line-turn : Goes s ws bytes from out at (record { script = record { stage = r .stage; reader = rd }; used = o .at + 1; at = r .at; full = false }) ws' out'
   line-turn =
       let u = t .start in
+      let w = p .says .wrote in
       let room = has-room (s .stage) out at d ed yes in
-      let b = p .says .wrote .bound in
+      let b = w .bound in
+      let n = w .end in
+      let one : 1 + o .at ≡ o .at + 1 = omega arith in
       record {
         later = omega arith;
-        used = omega (arith, here);
+        used = omega (arith, here s ws bytes from o t inside);
+        further = omega arith;
         fits = omega arith;
-        size = p .says .wrote .size;
-        text = λ more. ap (λ (v : List ℕ). take at out ++ v) (read-on s ws bytes from o t more) ∙ played-text more;
+        size = w .size;
+        rest = w .behind;
+        same = read-on s ws bytes from o t out at ∙ ap (behind (o .at) (take at out)) played ∙ behind-behind (o .at) 1 (take at out) (turn-of (s .stage) ws q .text) after ∙ rw (one, w .text-there);
       }
 
 -- LINE AFTER LINE
 pub goes-start : (s : Script) (ws bytes out : List ℕ) → Goes s ws bytes 0 out 0 (record { script = s; used = 0; at = 0; full = false }) ws out
-goes-start s ws bytes out = record { later = omega arith; used = omega arith; fits = omega arith; size = refl; text = λ more. refl }
+goes-start s ws bytes out = record { later = omega arith; used = omega arith; further = omega arith; fits = omega arith; size = refl; rest = refl; same = refl }
 
 pub goes-then : {s : Script} {ws bytes : List ℕ} {from : ℕ} {out : List ℕ} {at : ℕ} {f : Fed} {ws' out' : List ℕ} {g : Fed} {ws'' out'' : List ℕ} →
     Goes s ws bytes from out at f ws' out' → Goes (f .script) ws' bytes (f .used) out' (f .at) g ws'' out'' → Goes s ws bytes from out at g ws'' out''
-goes-then p q =
+goes-then {out = out} {f = f} {out' = out'} {g = g} p q =
     let a = p .later in
     let b = q .later in
+    let c = p .further in
+    let d = q .further in
     let m = p .size in
     let n = q .size in
     let k = q .fits in
-    record { later = omega arith; used = q .used; fits = omega arith; size = n ∙ m; text = λ more. p .text more ∙ q .text more }
+    record {
+      later = omega arith;
+      used = q .used;
+      further = omega arith;
+      fits = omega arith;
+      size = n ∙ m;
+      rest = q .rest ∙ same-behind out' out (f .at) (g .at) d (p .rest);
+      same = p .same ∙ (rw m at (q .same));
+    }
 
--- A DESCRIPTION
-pub goes-describe : (s : Script) (ws out out' : List ℕ) (r : Turn) (full : Bool) → Leaves (s .stage) ws out out' r →
-    Goes s ws [] 0 out 0 (record { script = record { stage = r .stage; reader = s .reader }; used = 0; at = r .at; full = full }) ws out'
-goes-describe s ws out out' r full l = record {
-  later = omega arith;
-  used = omega arith;
-  fits = l .fits;
-  size = l .size;
-  text = λ more. rw (l .text, l .land) (append-assoc (take (r .at) out') (pending (r .stage) ws) (printed-from (s .reader) (settled (s .stage)) ws (split newline more)));
-}
+-- nothing is left to feed: the result, the words and the buffer are those of the definition
+pub record Closes (d : Done) (out : List ℕ) (f : Fed) (ws' out' : List ℕ) : Type 0 where
+  pub result : f ≡ fedOf d
+  pub words : ws' ≡ d .words
+  pub buffer : out' ≡ over (d .text) out
 
-pub new-script : (r : Reader) → r ≡ at-start → record { stage = Stage.Closed; reader = r } ≡ script-start
-new-script r e = rw e
+module _ (s : Script) (ws bytes out : List ℕ) (f : Fed) (ws' out' : List ℕ) (p : Goes s ws bytes 0 out 0 f ws' out') where
+  closes : (full : Bool) → f .full ≡ full → fed (f .script) ws' (length out - f .at) (drop (f .used) bytes) ≡ at-rest (f .script) ws' full →
+      Closes (fed s ws (length out) bytes) out f ws' out'
+  closes full e g =
+      let m = p .size in
+      let k : f .at ≤ length out' = omega (arith, p .fits) in
+      let z : length out ≡ length out - 0 = omega arith in
+      let d : fed s ws (length out) bytes ≡ behind (f .used) (take (f .at) out') (at-rest (f .script) ws' full) =
+      behind-none (fed s ws (length out) bytes) ∙ ap (λ (n : ℕ). behind 0 [] (fed s ws n bytes)) z ∙ p .same ∙ ap (behind (f .used) (take (f .at) out')) g in
+      let u : f .used ≡ 0 + f .used = omega arith in
+      let n = text-end out out' (f .at) k (p .rest) in
+      rw d
+      (record {
+        result = λ i. record { script = f .script; used = u i; at = n i; full = e i };
+        words = refl;
+        buffer = text-over out out' (f .at) k (p .rest);
+      })
 
--- THE END
-pub ends-short : (s : Script) (out : List ℕ) → length out < 2 → Ends s out out 0
-ends-short s out k = record { fits = omega arith; size = refl; text = λ m. absurd (omega arith) }
+  -- all bytes are used
+  pub closes-all : f .full ≡ false → length bytes ≤ f .used → Closes (fed s ws (length out) bytes) out f ws' out'
+  closes-all e k = closes false e (ap (fed (f .script) ws' (length out - f .at)) (drop-of-length-le bytes {i = f .used} k))
 
-pub ends-quiet : (s : Script) (out : List ℕ) (t : Bool) → t ≡ begun-in (s .reader) → t ≡ false → Ends s out out 0
-ends-quiet s out t e f = let g : begun-in (s .reader) ≡ false = sym e ∙ f in record { fits = omega arith; size = refl; text = λ m. rw g }
-
-pub ends-open : (s : Script) (out m out' : List ℕ) (n r : ℕ) (t : Bool) → t ≡ begun-in (s .reader) → t ≡ true → 2 ≤ length out →
-    Wrote 1 out 0 (63 ∷ []) m n → Wrote 1 m n (10 ∷ []) out' r → Ends s out out' r
-ends-open s out m out' n r t e f k p q =
-    let w = wrote-then p q in
-    let b = w .bound in
-    let g : begun-in (s .reader) ≡ true = sym e ∙ f in
-    record { fits = omega arith; size = w .size; text = λ x. rw g (w .text-there) }
+  -- it stopped
+  pub closes-full : (mid : List ℕ) → length mid ≡ length out → f .full ≡ true →
+      fed (f .script) ws' (length mid - f .at) (drop (f .used) bytes) ≡ at-rest (f .script) ws' true → Closes (fed s ws (length out) bytes) out f ws' out'
+  closes-full mid m e g = closes true e (rw m at g)

@@ -62,7 +62,7 @@ clear-done start ws i c k =
 
 -- ANSWERS
 pub wider : {k : ℕ} {b : List ℕ} {from : ℕ} {t a : List ℕ} {n : ℕ} → Wrote k b from t a n → k ≤ 105 → Wrote 105 b from t a n
-wider w k = let m = w .bound in record { size = w .size; end = w .end; bound = omega arith; text-there = w .text-there }
+wider w k = let m = w .bound in record { size = w .size; end = w .end; bound = omega arith; text-there = w .text-there; behind = w .behind }
 
 pub says : {k : ℕ} {b : List ℕ} {from : ℕ} {t a : List ℕ} (r : Turn) → Wrote k b from t a (r .at) → k ≤ 105 → Says (r .stage) t b from a r
 says r w k = record { stage = refl; wrote = wider w k }

@@ -108,9 +108,12 @@ range-lines [] = []
 range-lines (r ∷ rs) = line (r .base ∷ r .limit ∷ []) ++ range-lines rs
 
 -- Of the ranges with a base at or above x.
+abbrev pub ranges-from : ℕ → Reading (List Range) → List Range
+ranges-from x (fault n) = []
+ranges-from x (holding rs) = from x rs
+
 abbrev pub lines-from : ℕ → Reading (List Range) → List ℕ
-lines-from x (fault n) = []
-lines-from x (holding rs) = range-lines (from x rs)
+lines-from x o = range-lines (ranges-from x o)
 
 -- What is left to print of a description, and the stage when it has ended.
 abbrev pub pending : Stage → List ℕ → List ℕ

@@ -6,11 +6,11 @@ mod turns;
 use lines::Reader;
 use list_land::ListLand;
 use units::Addr;
-ghost use mathlib.Core.List.{[]};
 ghost use mathlib.Core.Path.{_≡_};
 ghost use Prim.Native.Nat.{_≤_, _<_};
 ghost use lib.ListN.{length};
-ghost use Rattle.script.specs.Feeding.{Goes, Moves, Uses, Tells, Ends, is-describing, script-start};
+ghost use Rattle.script.specs.Calls.{fedOf, fed, told, ended, over, is-describing, script-start};
+ghost use Rattle.script.specs.Feeding.{Goes, Moves};
 
 // No arena yet; a land; or a land with a description that goes on from an address.
 pub enum Stage {
@@ -64,7 +64,7 @@ impl Script {
         requires { ⌜ at ≤ length (now out) ⌝ }
         requires { ⌜ from ≤ length (now bytes) ⌝ }
         ensures { λ r. ⌜ Goes self (now (words .entry)) (now (bytes .entry)) from (now (out .entry)) at r (now (words .exit)) (now (out .exit)) ⌝ }
-        ensures { λ r. ⌜ Moves self (now (bytes .entry)) from (now (out .entry)) at r ⌝ }
+        ensures { λ r. ⌜ Moves (now (bytes .entry)) from (now (out .entry)) r (now (words .exit)) ⌝ }
     {
         let stage = self.stage;
         let start = self.reader;
@@ -102,8 +102,9 @@ impl Script {
 
     // Some bytes of the input: their lines are played, and the answers stand at the start of the buffer.
     pub fn feed(self, words: &mut [u64], out: &mut [u8], bytes: &[u8]) -> Fed
-        ensures { λ r. ⌜ Goes self (now (words .entry)) (now (bytes .entry)) 0 (now (out .entry)) 0 r (now (words .exit)) (now (out .exit)) ⌝ }
-        ensures { λ r. ⌜ Uses self (now (bytes .entry)) (now (out .entry)) r ⌝ }
+        ensures { λ r. ⌜ r ≡ fedOf (fed self (now (words .entry)) (length (now (out .entry))) (now (bytes .entry))) ⌝ }
+        ensures { λ r. ⌜ now (words .exit) ≡ fed self (now (words .entry)) (length (now (out .entry))) (now (bytes .entry)) .words ⌝ }
+        ensures { λ r. ⌜ now (out .exit) ≡ over (fed self (now (words .entry)) (length (now (out .entry))) (now (bytes .entry)) .text) (now (out .entry)) ⌝ }
     {
         let mut fed = Fed {
             script: self,
@@ -124,8 +125,8 @@ impl Script {
 
     // The ranges of a description that is under way, as many as the buffer has room for.
     pub fn describe(self, words: &[u64], out: &mut [u8]) -> Fed
-        ensures { λ r. ⌜ Goes self (now (words .entry)) [] 0 (now (out .entry)) 0 r (now (words .entry)) (now (out .exit)) ⌝ }
-        ensures { λ r. ⌜ Tells (now (out .entry)) r ⌝ }
+        ensures { λ r. ⌜ r ≡ fedOf (told self (now (words .entry)) (length (now (out .entry)))) ⌝ }
+        ensures { λ r. ⌜ now (out .exit) ≡ over (told self (now (words .entry)) (length (now (out .entry))) .text) (now (out .entry)) ⌝ }
     {
         let stage = self.stage;
         let reader = self.reader;
@@ -144,7 +145,8 @@ impl Script {
 
     // The end of the input: a last line without its newline.
     pub fn end(self, out: &mut [u8]) -> usize
-        ensures { λ r. ⌜ Ends self (now (out .entry)) (now (out .exit)) r ⌝ }
+        ensures { λ r. ⌜ r ≡ length (ended self (length (now (out .entry)))) ⌝ }
+        ensures { λ r. ⌜ now (out .exit) ≡ over (ended self (length (now (out .entry)))) (now (out .entry)) ⌝ }
     {
         let reader = self.reader;
         if out.len() < 2 {

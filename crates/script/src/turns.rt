@@ -16,11 +16,13 @@ ghost use Prim.Native.Nat.{_+_, _≤_};
 ghost use lib.ListN.{length, replicate};
 ghost use Rattle.units.specs.Words.{wordNumber};
 ghost use Rattle.list_land.specs.Calls.{found, foundOf};
+ghost use Rattle.list_land.specs.Layout.{readOf};
 ghost use Rattle.texts.specs.Decimal.{line};
-ghost use Rattle.script.specs.Printed.{question, arena-turn, land-turn, on-first, arena-words, turn-of};
+ghost use Rattle.script.specs.Printed.{question, arena-turn, land-turn, on-first, arena-words, turn-of, ranges-from};
 ghost use Rattle.lines.specs.declared.Request.{Request as Request·};
 ghost use Rattle.script.specs.declared.Stage.{Stage as Stage·};
-ghost use Rattle.script.specs.Feeding.{Fits, Says, Plays, Describes, Leaves, is-describing, is-ready};
+ghost use Rattle.script.specs.Calls.{is-describing, is-ready, tell, tell-stage};
+ghost use Rattle.script.specs.Feeding.{Fits, Says, Plays, Tells};
 
 // The number of words between two addresses.
 fn words_between(base: Addr, limit: Addr) -> usize
@@ -184,7 +186,7 @@ fn open_in(stage: Stage, arena: Arena, words: &mut [u64], out: &mut [u8], at: us
 
 // The ranges from an address on, a line for each, as many as the buffer has room for.
 fn lines_from(land: ListLand, words: &[u64], start: Addr, out: &mut [u8]) -> Turn
-    ensures { λ r. ⌜ Describes land start (now (words .entry)) (now (out .entry)) (now (out .exit)) r ⌝ }
+    ensures { λ r. ⌜ Tells (tell land start (length (now (out .entry))) (ranges-from (start .0) (readOf land (now (words .entry))))) (now (out .entry)) (now (out .exit)) r ⌝ }
 {
     let mut from = start;
     let mut at: usize = 0;
@@ -244,7 +246,7 @@ impl Stage {
 
     // What is left of a description.
     pub(crate) fn describe(self, words: &[u64], out: &mut [u8]) -> Turn
-        ensures { λ r. ⌜ Leaves self (now (words .entry)) (now (out .entry)) (now (out .exit)) r ⌝ }
+        ensures { λ r. ⌜ Tells (tell-stage self (now (words .entry)) (length (now (out .entry)))) (now (out .entry)) (now (out .exit)) r ⌝ }
     {
         match self {
             Stage::Describing(land, from) => {

@@ -3,8 +3,8 @@ use Prim.Native.Nat.{ℕ, suc, _+_, _-_, _/_, _%_, _≤_, _<_}
 use mathlib.Core.List.{List, [], _∷_, _++_, append-nil}
 use mathlib.Core.Path.{_≡_, refl, sym, ap, _∙_}
 use native.Mathlib.Omega.{arith}
-use lib.ListN.{length, take, getD, set, length-set}
-use lib.Seq.{length-take-le, take-suc, append-snoc, set-at, take-set-le, take-set-lt}
+use lib.ListN.{length, take, drop, getD, set, length-set}
+use lib.Seq.{length-take-le, take-suc, append-snoc, set-at, take-set-le, take-set-lt, drop-set-lt}
 use Rattle.texts.specs.Decimal.{decimal}
 use Rattle.texts.specs.Writing.{Wrote}
 use Rattle.texts.proofs.Decimal.{decimal-some, decimal-most}
@@ -32,6 +32,7 @@ pub record Putting (before : List ℕ) (at n next : ℕ) (out : List ℕ) (i res
   pub above : at < i
   pub head : take at out ≡ take at before
   pub there : take next out ≡ take i out ++ text
+  pub behind : drop next out ≡ drop next before
 
 pub put-start : (before : List ℕ) (at n next : ℕ) → at + 21 ≤ length before → n < 18446744073709551616 → next ≡ at + length (decimal n) →
     Putting before at n next before next n
@@ -49,6 +50,7 @@ put-start before at n next r p e =
       above = omega arith;
       head = refl;
       there = sym (append-nil (take next before));
+      behind = refl;
     }
 
 module _ (before : List ℕ) (at n next : ℕ) (out : List ℕ) (i rest : ℕ) (h : Putting before at n next out i rest) where
@@ -75,6 +77,7 @@ module _ (before : List ℕ) (at n next : ℕ) (out : List ℕ) (i rest : ℕ) (
         above = omega arith;
         head = rw o (take-set-le at out j v (omega arith) ∙ h .head);
         there = rw (o, take-set-le j out j v (omega arith)) (one-more out (h .text) j next v (omega arith) (omega arith) w);
+        behind = rw o (drop-set-lt next out j v (omega arith) ∙ h .behind);
       }
 
   last-digit : rest ≤ 9 → (v : ℕ) → v ≡ 48 + rest → Wrote 20 before at (decimal n) (set out at v) next
@@ -94,6 +97,7 @@ module _ (before : List ℕ) (at n next : ℕ) (out : List ℕ) (i rest : ℕ) (
         end = stop;
         bound = few;
         text-there = one-more out (h .text) at next v (omega arith) (omega arith) w ∙ rw (h .head, x) refl;
+        behind = drop-set-lt next out at v (omega arith) ∙ h .behind;
       }
 
   pub put-done : rest ≤ 9 → (v e r : ℕ) (out' : List ℕ) → v ≡ 48 + rest → r ≡ next + 1 → out' ≡ set (set out at v) next e → Wrote 21 before at (decimal n ++ (e ∷ [])) out' r

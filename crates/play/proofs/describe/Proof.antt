@@ -1,9 +1,11 @@
 -- `describe` is safe and ends: each turn leaves less to print. Assumes nothing.
 use mathlib.Core.Path.{_≡_, refl, sym, _∙_}
 use native.Mathlib.Omega.{arith}
+use denote.Ref.{now}
 use lib.ListN.{length}
 use borrow.Author.Needs.{needs}
-use Rattle.play.proofs.Printing.{to-print, prints-less}
+use Rattle.script.proofs.RunsExist.{to-print}
+use Rattle.play.proofs.Parts.{told-inside, told-less}
 use Rattle.play.proofs.describe.Statement.{statement}
 use Rattle.play.proofs.describe.Tie as tie
 
@@ -23,7 +25,7 @@ describe-requires : tie.Need-describe-requires Inv-loop μ-loop
 describe-requires c κs = search needs
 
 put-out-requires : tie.Need-put-out-requires Inv-loop μ-loop
-put-out-requires c κs = search needs
+put-out-requires c κs = let told = c .before .before .before .before .describe .ensures in told-inside (c .before .before .before .before .before .before .before .before .loop .script) (now (c .before .before .before .before .before .before .before .before .before .before .before .args .words)) (c .before .before .before .before .before .before .before .before .loop .out) _ _ (told .0) (told .1)
 
 same-length : tie.Need-same-length Inv-loop μ-loop
 same-length c = search needs
@@ -33,8 +35,7 @@ returns c = tt
 
 loop-less : tie.Need-loop-less Inv-loop μ-loop
 loop-less c =
-    let told = c .before .before .before .before .before .before .before .before .before .is-describing .ensures in
-    prints-less (c .before .before .before .before .before .before .before .before .before .before .loop .script) _ _ _ _ (c .before .before .before .before .before .before .describe .ensures .0) (c .before .before .before .before .before .before .describe .ensures .1 .shows) (omega arith) (sym told ∙ c .before .before .before .before .before .before .before .before .if1 .taken)
+    told-less (c .before .before .before .before .before .before .before .before .before .before .loop .script) _ _ _ (omega arith) (sym (c .before .before .before .before .before .before .before .before .before .is-describing .ensures) ∙ c .before .before .before .before .before .before .before .before .if1 .taken) (c .before .before .before .before .before .before .describe .ensures .0)
 
 loop-again : tie.Need-loop-again Inv-loop μ-loop
 loop-again c = search needs

@@ -6,7 +6,7 @@ use denote.Ref.{now}
 use lib.ListN.{length}
 use borrow.Author.Needs.{needs}
 use Rattle.play.specs.Steps.{Still}
-use Rattle.play.proofs.Parts.{used-of-part, uses-one, still-more}
+use Rattle.play.proofs.Parts.{used-of-part, uses-some, fed-inside, still-more}
 use Rattle.play.proofs.feed.Statement.{statement}
 use Rattle.play.proofs.feed.Tie as tie
 
@@ -33,10 +33,15 @@ feed-requires : tie.Need-feed-requires Inv-loop μ-loop
 feed-requires c κs = search needs
 
 add-from : tie.Need-add-from Inv-loop μ-loop
-add-from c = search needs
+add-from c =
+    let at = c .before .before .before .before .before .before .before .before .before .before .loop in
+    omega (arith, used-of-part (now (c .before .before .before .before .before .before .before .before .before .before .before .before .before .before .args .bytes)) (at .from) (at .script) _ _ _ (c .before .before .before .before .before .feed .ensures .0) (omega (arith, at .inv .2)))
 
 put-out-requires : tie.Need-put-out-requires Inv-loop μ-loop
-put-out-requires c κs = search needs
+put-out-requires c κs =
+    let at = c .before .before .before .before .before .before .before .before .before .before .before .loop in
+    let fed = c .before .before .before .before .before .before .feed .ensures in
+    fed-inside (at .script) (at .words) (at .out) _ _ (now (c .before .before .before .before .before .before .before .before .before .before .before .before .before .before .before .args .bytes)) (at .from) (fed .0) (fed .1 .1)
 
 same-length : tie.Need-same-length Inv-loop μ-loop
 same-length c = search needs
@@ -64,21 +69,21 @@ returns-2 c = search needs
 
 loop-less : tie.Need-loop-less Inv-loop μ-loop
 loop-less c =
-    let fed = c .before .before .before .before .before .before .before .before .before .before .before .before .before .before .before .before .feed .ensures in
-    let inv = c .before .before .before .before .before .before .before .before .before .before .before .before .before .before .before .before .before .before .before .before .before .loop .inv in
-    let bytes = now (c .before .before .before .before .before .before .before .before .before .before .before .before .before .before .before .before .before .before .before .before .before .before .before .before .before .args .bytes) in
-    let from = c .before .before .before .before .before .before .before .before .before .before .before .before .before .before .before .before .before .before .before .before .before .loop .from in
-    let used = uses-one bytes from (c .before .before .before .before .before .before .before .before .before .before .before .before .before .before .before .before .before .before .before .before .before .loop .script) _ _ (omega arith) (omega (arith, c .before .before .before .before .before .before .before .before .before .before .before .before .before .before .before .before .before .before .before .before .before .before .before .before .before .pre .0, inv .1)) (inv .3) (fed .1) in
-    let inside = used-of-part bytes from _ (inv .2) (fed .0 .used) in
+    let at = c .before .before .before .before .before .before .before .before .before .before .before .before .before .before .before .before .before .before .before .before .before .loop in
+    let start = c .before .before .before .before .before .before .before .before .before .before .before .before .before .before .before .before .before .before .before .before .before .before .before .before .before in
+    let bytes = now (start .args .bytes) in
+    let fed = c .before .before .before .before .before .before .before .before .before .before .before .before .before .before .before .before .feed .ensures .0 in
+    let used = uses-some bytes (at .from) (at .script) _ _ _ fed (c .before .before .before .before .before .before .before .before .before .before .before .before .before .before .before .before .before .before .before .before .loop-test .taken) (omega (arith, start .pre .0, at .inv .1)) (at .inv .3) in
+    let inside = used-of-part bytes (at .from) (at .script) _ _ _ fed (at .inv .2) in
     omega arith
 
 loop-again : tie.Need-loop-again Inv-loop μ-loop
 loop-again c =
-    let fed = c .before .before .before .before .before .before .before .before .before .before .before .before .before .before .before .before .feed in
-    let inv = c .before .before .before .before .before .before .before .before .before .before .before .before .before .before .before .before .before .before .before .before .before .loop .inv in (
-      omega (arith, fed .kept .1 .0, inv .0),
-      omega (arith, fed .kept .1 .1 .0, c .before .before .before .before .before .describe .kept .1 .1 .0, inv .1),
-      used-of-part (now (c .before .before .before .before .before .before .before .before .before .before .before .before .before .before .before .before .before .before .before .before .before .before .before .before .before .args .bytes)) (c .before .before .before .before .before .before .before .before .before .before .before .before .before .before .before .before .before .before .before .before .before .loop .from) _ (inv .2) (fed .ensures .0 .used),
+    let at = c .before .before .before .before .before .before .before .before .before .before .before .before .before .before .before .before .before .before .before .before .before .loop in
+    let fed = c .before .before .before .before .before .before .before .before .before .before .before .before .before .before .before .before .feed in (
+      omega (arith, fed .kept .1 .0, at .inv .0),
+      omega (arith, fed .kept .1 .1 .0, c .before .before .before .before .before .describe .kept .1 .1 .0, at .inv .1),
+      used-of-part (now (c .before .before .before .before .before .before .before .before .before .before .before .before .before .before .before .before .before .before .before .before .before .before .before .before .before .args .bytes)) (at .from) (at .script) _ _ _ (fed .ensures .0) (at .inv .2),
       search (still-more, c .before .before .before .before .before .describe .ensures),
     )
 

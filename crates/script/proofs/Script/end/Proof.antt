@@ -1,12 +1,13 @@
 -- `end` meets its contract. Assumes nothing.
 use native.Mathlib.Omega.{arith}
-use Rattle.script.proofs.Going.{ends-short, ends-open, ends-quiet}
+use denote.Ref.{now}
+use Rattle.script.proofs.Ending.{end-short, end-quiet, ends-none, ends-open}
 use borrow.Author.Needs.{needs}
 use Rattle.script.proofs.Script.end.Statement.{statement}
 use Rattle.script.proofs.Script.end.Tie as tie
 
 returns : tie.Need-returns
-returns c = ends-short _ _ (c .if1 .taken)
+returns c = let x = c .before .before .before .args in ends-none (x .self) _ (end-short (x .self) (now (x .out)) (omega arith))
 
 begun-requires : tie.Need-begun-requires
 begun-requires c κs = search needs
@@ -24,7 +25,9 @@ returns-2 : tie.Need-returns-2
 returns-2 c = ends-open (c .before .before .before .before .before .before .before .before .before .before .before .before .before .args .self) _ _ _ _ _ _ (c .before .before .before .before .before .before .before .before .before .begun .ensures) (c .before .before .before .before .before .before .before .before .if2 .taken) (omega arith) (c .before .before .before .before .before .before .put-byte .ensures) (c .before .before .put-byte2 .ensures)
 
 returns-3 : tie.Need-returns-3
-returns-3 c = ends-quiet (c .before .before .before .before .before .args .self) _ _ (c .before .begun .ensures) (c .if2 .left)
+returns-3 c =
+    let x = c .before .before .before .before .before .args in
+    ends-none (x .self) _ (end-quiet (x .self) (now (x .out)) _ (c .before .begun .ensures) (c .if2 .left) (omega arith))
 
 pub end-spec : {M : Type 1} → statement M
 end-spec =

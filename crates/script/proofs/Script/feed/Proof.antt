@@ -1,23 +1,24 @@
 -- `feed` meets its contract: line after line. Assumes nothing.
 use Prim.Native.Nat.{_-_}
+use mathlib.Core.Bool.{false}
 use mathlib.Core.Path.{_≡_, refl}
 use native.Mathlib.Omega.{arith}
 use borrow.Author.Needs.{needs}
 use lib.ListN.{length}
 use Rattle.script.specs.Feeding.{Goes}
-use Rattle.script.proofs.Going.{goes-start, goes-then, Begun, begun-start, begun-next, uses-all, uses-some}
+use Rattle.script.proofs.Going.{goes-start, goes-then, closes-all, closes-full}
 use Rattle.script.proofs.Script.feed.Statement.{statement}
 use Rattle.script.proofs.Script.feed.Tie as tie
 
 abbrev Inv-loop : tie.InvT-loop
 Inv-loop words₀ out₀ bytes fed₀ words out fed =
-    (length words ≡ length words₀) × Goes (fed₀ .script) words₀ bytes 0 out₀ 0 fed words out × Begun (fed₀ .script) fed
+    (length words ≡ length words₀) × Goes (fed₀ .script) words₀ bytes 0 out₀ 0 fed words out × (fed .full ≡ false)
 
 abbrev μ-loop : tie.MeasureT-loop
 μ-loop words₀ out₀ bytes fed₀ words out fed = length bytes - fed .used
 
 loop-holds : tie.Need-loop-holds Inv-loop μ-loop
-loop-holds c = (refl, goes-start _ _ _ _, begun-start _)
+loop-holds c = (refl, goes-start _ _ _ _, refl)
 
 line-requires : tie.Need-line-requires Inv-loop μ-loop
 line-requires c κs = search needs
@@ -32,7 +33,8 @@ returns : tie.Need-returns Inv-loop μ-loop
 returns c =
     let inv = c .before .before .before .before .before .before .before .before .before .before .before .loop .inv in
     let line = c .before .before .before .before .before .line .ensures in
-    (goes-then (inv .1) (line .0), uses-some _ _ _ _ (c .before .before .before .before .before .before .before .before .before .before .before .loop .fed) _ (inv .2) (inv .1 .size) (omega arith) (line .0 .later) (c .if2 .taken) (line .1))
+    let closed = closes-full _ _ _ _ _ _ _ (goes-then (inv .1) (line .0)) (c .before .before .before .before .before .before .before .before .before .before .before .loop .out) (inv .1 .size) (c .if2 .taken) (line .1 .stops (c .if2 .taken)) in
+    (closed .result, (closed .words, closed .buffer))
 
 loop-less : tie.Need-loop-less Inv-loop μ-loop
 loop-less c =
@@ -47,7 +49,7 @@ loop-again c =
     let line = c .before .before .before .before .before .line in (
       omega (arith, line .kept .1 .0, inv .0),
       goes-then (inv .1) (line .ensures .0),
-      begun-next _ (c .before .before .before .before .before .before .before .before .before .before .before .loop .fed) _ (line .ensures .1 .onward (omega arith) (c .if2 .left)) (c .if2 .left),
+      c .if2 .left,
     )
 
 same-length-3 : tie.Need-same-length-3 Inv-loop μ-loop
@@ -57,7 +59,10 @@ same-length-4 : tie.Need-same-length-4 Inv-loop μ-loop
 same-length-4 c = search needs
 
 returns-2 : tie.Need-returns-2 Inv-loop μ-loop
-returns-2 c = let inv = c .before .before .loop .inv in (inv .1, uses-all _ _ _ _ (inv .1 .used) (omega arith))
+returns-2 c =
+    let inv = c .before .before .loop .inv in
+    let closed = closes-all _ _ _ _ _ _ _ (inv .1) (inv .2) (omega arith) in
+    (closed .result, (closed .words, closed .buffer))
 
 pub feed-spec : {M : Type 1} → statement M
 feed-spec =

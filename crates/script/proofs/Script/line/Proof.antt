@@ -1,9 +1,9 @@
 -- `line` meets its contract. Assumes nothing.
-use mathlib.Core.Bool.{true, false}
+use mathlib.Core.Bool.{false, true}
 use mathlib.Core.Path.{refl}
 use native.Mathlib.Omega.{arith}
 use denote.Ref.{now}
-use Rattle.script.proofs.Going.{line-part, moves-on, moves-full, has-room, line-turn}
+use Rattle.script.proofs.Going.{line-part, line-stops, moves-on, has-room, line-turn}
 use borrow.Author.Needs.{needs}
 use Rattle.script.proofs.Script.line.Statement.{statement}
 use Rattle.script.proofs.Script.line.Tie as tie
@@ -14,7 +14,7 @@ read-requires c κs = search needs
 returns : tie.Need-returns
 returns c =
     let read = c .before .before .before .read .ensures in
-    (line-part (c .before .before .before .before .before .before .before .before .args .self) _ _ _ _ read _ _ (omega arith) false, moves-on _ _ _ _ _ _ (λ k. let e = c .if1 .taken in omega arith))
+    (line-part (c .before .before .before .before .before .before .before .before .args .self) _ _ _ _ read _ _ false (omega arith), moves-on _ _ _ _ _ refl (λ k. let e = c .if1 .taken in omega arith))
 
 add-used : tie.Need-add-used
 add-used c = search needs
@@ -49,11 +49,14 @@ returns-2 c =
     let from = read .start in (
       line-turn (x .self) _ _ _ _ read _ (x .at) _ (c .before .before .before .before .before .before .before .before .before .before .is-ready .ensures) (c .before .before .before .before .before .before .before .before .before .if2 .taken) (c .before .before .before .before .before .before .before .before .before .before .before .before .if1 .left) _ (c .before .before .before .before .before .before .before .request .ensures) _ _ _
           (c .before .before .before .before .before .play .ensures) _ (c .new .ensures),
-      moves-on _ _ _ _ _ _ (λ k. omega arith),
+      moves-on _ _ _ _ _ refl (λ k. omega arith),
     )
 
 returns-3 : tie.Need-returns-3
-returns-3 c = (line-part (c .before .before .before .before .before .before .before .before .before .before .before .args .self) _ _ _ _ (c .before .before .before .before .before .before .read .ensures) _ _ (omega arith) true, moves-full _ _ _ _ _ _ refl _ (c .before .is-ready .ensures) (c .if2 .left))
+returns-3 c =
+    let x = c .before .before .before .before .before .before .before .before .before .before .before .args .self in
+    let read = c .before .before .before .before .before .before .read .ensures in
+    (line-part x _ _ _ _ read _ _ true (omega arith), line-stops x _ _ _ _ read _ _ _ (c .before .is-ready .ensures) (c .if2 .left) (c .before .before .before .if1 .left))
 
 pub line-spec : {M : Type 1} → statement M
 line-spec =

@@ -1,5 +1,5 @@
 -- `describe` meets its contract. Assumes nothing.
-use Rattle.script.proofs.Telling.{leaves, leaves-closed, leaves-open}
+use Rattle.script.proofs.Telling.{tells, tells-closed, tells-open}
 use borrow.Author.Needs.{needs}
 use Rattle.script.proofs.Stage.describe.Statement.{statement}
 use Rattle.script.proofs.Stage.describe.Tie as tie
@@ -29,13 +29,13 @@ same-length : tie.Need-same-length
 same-length c = search needs
 
 returns : tie.Need-returns
-returns c = leaves _ _ _ _ _ _ _ (search needs) (c .before .before .before .before .before .before .words-between .ensures) (c .before .before .before .before .before .fit .ensures) (c .before .before .lines-from .ensures)
+returns c = tells (c .before .before .before .before .before .before .before .before .before .before .before .before .args .self) _ _ _ _ _ _ (search needs) (c .before .before .before .before .before .before .words-between .ensures) (c .before .before .before .before .before .fit .ensures) (c .before .before .lines-from .ensures)
 
 returns-2 : tie.Need-returns-2
-returns-2 c = search leaves-closed
+returns-2 c = search tells-closed
 
 returns-3 : tie.Need-returns-3
-returns-3 c = search leaves-open
+returns-3 c = search tells-open
 
 pub describe-spec : {M : Type 1} → statement M
 describe-spec =

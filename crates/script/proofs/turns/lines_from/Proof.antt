@@ -26,7 +26,7 @@ same-length : tie.Need-same-length Inv-loop μ-loop
 same-length c = search needs
 
 returns : tie.Need-returns Inv-loop μ-loop
-returns c = tell-end _ _ _ _ _ _ _ (c .before .before .before .before .loop .inv) (c .before .before .walk .result) (c .before .before .walk .ensures .0) (c .if1 .taken)
+returns c = tell-end _ _ _ _ _ _ _ (c .before .before .before .before .loop .inv) (c .before .before .walk .result) (c .before .before .walk .ensures .0) (c .if1 .taken) (omega arith)
 
 number-requires : tie.Need-number-requires Inv-loop μ-loop
 number-requires c κs = search needs
