@@ -11,18 +11,11 @@ use Rattle.block_land.specs.declared.BlockLand.{BlockLand}
 use Rattle.block_land.proofs.LayoutLaws.{block-laws}
 use Rattle.block_land.proofs.Sound as block-sound
 use Rattle.pair_model.specs.Pairs.{Both, both}
-use Rattle.pair_model.specs.PairLayouts.{same-arena, pair-read}
-use Rattle.pair_model.specs.PairAnswers.{PairReadRows}
+use Rattle.pair_model.specs.PairLayouts.{same-arena}
 use Rattle.pair_model.proofs.PairCalling.{pair-read-rows, pair-call-right}
-use Rattle.pair.specs.Right.{PairIsRight}
+use Rattle.pair.specs.Right.{ReadsRight, PairIsRight}
 
-reads : (h : Both ListLand BlockLand) (w : Both (List ℕ) (List ℕ)) →
-    PairReadRows
-    (both (list.setUp (h .list) (w .list)) (block.setUp (h .block) (w .block)))
-    (both (list.sound (h .list) (w .list)) (block.sound (h .block) (w .block)))
-    (same-arena (list.arenaOf (h .list)) (block.arenaOf (h .block) (w .block)))
-    (both (list.walkOf (h .list) (w .list) .met) (block.tableOf (h .block) (w .block)))
-    (pair-read list.layout block.layout h w)
+reads : (h : Both ListLand BlockLand) (w : Both (List ℕ) (List ℕ)) → ReadsRight h w
 unfolding list.readOf block.readOf
 reads h w =
     pair-read-rows

@@ -9,15 +9,17 @@ use Rattle.pair_model.specs.Pairs.{Both, both, PairCall}
 use Rattle.pair_model.specs.PairLayouts.{same-arena, pair-read}
 use Rattle.pair_model.specs.PairAnswers.{PairReadRows, PairCallRight}
 
--- Whatever the handles and the words: 5 and 6 are given as in a flush, and 6 where lands overlap; a refusal changes nothing; where a
--- pair is read, the outcome and the pair read afterwards are those of K4.
+-- 5 and 6 as in a flush, and 6 where the lands overlap, whatever the handles and the words.
+abbrev pub ReadsRight : Both ListLand BlockLand → Both (List ℕ) (List ℕ) → Type 0
+ReadsRight h w =
+    PairReadRows
+    (both (list.setUp (h .list) (w .list)) (block.setUp (h .block) (w .block)))
+    (both (list.sound (h .list) (w .list)) (block.sound (h .block) (w .block)))
+    (same-arena (list.arenaOf (h .list)) (block.arenaOf (h .block) (w .block)))
+    (both (list.walkOf (h .list) (w .list) .met) (block.tableOf (h .block) (w .block)))
+    (pair-read list.layout block.layout h w)
+
+-- And a refusal changes nothing; where a pair is read, the outcome and the pair read afterwards are those of K4.
 pub record PairIsRight : Type 0 where
-  pub reads :
-      (h : Both ListLand BlockLand) (w : Both (List ℕ) (List ℕ)) →
-      PairReadRows
-      (both (list.setUp (h .list) (w .list)) (block.setUp (h .block) (w .block)))
-      (both (list.sound (h .list) (w .list)) (block.sound (h .block) (w .block)))
-      (same-arena (list.arenaOf (h .list)) (block.arenaOf (h .block) (w .block)))
-      (both (list.walkOf (h .list) (w .list) .met) (block.tableOf (h .block) (w .block)))
-      (pair-read list.layout block.layout h w)
+  pub reads : (h : Both ListLand BlockLand) (w : Both (List ℕ) (List ℕ)) → ReadsRight h w
   pub calls : (c : PairCall) (h : Both ListLand BlockLand) (w : Both (List ℕ) (List ℕ)) → PairCallRight list.layout block.layout c h w
