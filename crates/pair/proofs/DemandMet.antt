@@ -4,6 +4,7 @@ use mathlib.Core.List.{List, []}
 use mathlib.Core.Path.{_≡_, refl}
 use native.Mathlib.Omega.{arith}
 use borrow.Author.Tests.{eq-eqb}
+use Rattle.units.proofs.Tests.{or-first}
 use Rattle.model.specs.Layouts.{holding}
 use Rattle.model.specs.Lands.{land-answers}
 use Rattle.model.proofs.Playing.{wider}
@@ -43,7 +44,7 @@ opened-demand-3 b l a ws vs e f cs os t =
 -- THE REQUEST'S OWN HOST
 own-host : (h : Both ListLand BlockLand) (w w' : Both (List ℕ) (List ℕ)) → FreeKept h w w' → pair-layout list.layout block.layout .host h w w'
 own-host h w w' m =
-    (list-demand.own-host (h .list) (w .list) (w' .list) (m .number, λ i f. m .arena i (rw f)), m .nodes)
+    (list-demand.own-host (h .list) (w .list) (w' .list) (m .number, λ i f. m .arena i (or-first _ _ f)), m .nodes)
 
 pub own-demand-3 : OwnDemand3
 own-demand-3 b l a ws vs e f cs os t =

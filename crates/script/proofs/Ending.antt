@@ -1,15 +1,15 @@
 -- The result of a description, and the ways out of the end of an input. Assumes nothing.
 use Prim.Native.Nat.{ℕ, _≤_, _<_}
-use mathlib.Core.Bool.{Bool, true, false}
+use mathlib.Core.Bool.{Bool, true, false, cond}
 use mathlib.Core.List.{List, [], _∷_, _++_}
-use mathlib.Core.Path.{_≡_, refl, sym, _∙_}
+use mathlib.Core.Path.{_≡_, refl, sym, ap, _∙_}
 use native.Mathlib.Omega.{arith}
 use borrow.Author.Tests.{le-leb, lt-leb}
 use lib.ListN.{length, take, drop, take-append-drop}
 use Rattle.lines.specs.Reading.{begun-in}
 use Rattle.texts.specs.Writing.{Wrote}
 use Rattle.texts.proofs.Writing.{wrote-then}
-use Rattle.script.specs.Calls.{fedOf, over, told, tell-stage, ended, is-describing}
+use Rattle.script.specs.Calls.{fedOf, over, told, tell-stage, end-text, ended, is-describing}
 use Rattle.script.specs.Feeding.{Tells}
 use Rattle.script.specs.declared.Script.{Script}
 use Rattle.script.specs.declared.Turn.{Turn}
@@ -21,7 +21,7 @@ fed-told s ws out out' r full t e = rw (e, t .turn)
 
 -- THE END
 pub end-short : (s : Script) (out : List ℕ) → length out < 2 → ended s (length out) ≡ []
-end-short s out k = rw (lt-leb 2 (length out) k)
+end-short s out k = ap (λ (t : Bool). cond t (end-text s) []) (lt-leb 2 (length out) k)
 
 pub end-quiet : (s : Script) (out : List ℕ) (t : Bool) → t ≡ begun-in (s .reader) → t ≡ false → 2 ≤ length out → ended s (length out) ≡ []
 end-quiet s out t e f k = let g : begun-in (s .reader) ≡ false = sym e ∙ f in rw (le-leb 2 (length out) k, g)
