@@ -2,7 +2,10 @@
 use Prim.Native.Nat.{ℕ}
 use mathlib.Core.Bool.{Bool, cond}
 use lib.Dec.{eqb}
+use Rattle.units.specs.Rules.{setUpNumber, soundNumber}
 use Rattle.units.specs.declared.Mode.{Mode}
+use Rattle.units.specs.declared.rules.SetUp.{SetUp}
+use Rattle.units.specs.declared.rules.Soundness.{Soundness}
 use Rattle.model.specs.Calls.{Outcome, refused}
 use Rattle.model.specs.Layouts.{Done}
 use Rattle.capi.specs.declared.modes.Given.{Given}
@@ -15,9 +18,15 @@ givenMode m =
     (cond (eqb m 2) (Given.Mode Mode.High)
     (cond (eqb m 3) (Given.Mode Mode.Entire) Given.Unknown)))
 
--- Any other number is answered 4 where the size rule is tested: after 5 and 6.
+-- Document 01's number of each case: 4, since the request breaks the rules.
+abbrev pub givenNumber : Given → ℕ
+givenNumber (Given.Mode mode) = 0
+givenNumber Given.Unknown = 4
+
+-- Any other number is answered where the size rule is tested: after 5 and 6.
 abbrev pub unknownMode : Bool → Bool → ℕ
-unknownMode set-up sound = cond set-up (cond sound 4 6) 5
+unknownMode set-up sound =
+    cond set-up (cond sound (givenNumber Given.Unknown) (soundNumber Soundness.Damaged)) (setUpNumber SetUp.Bad)
 
 -- A call with its mode; with a number that is none, a refusal that leaves the handle and the words.
 abbrev pub withMode : {H W : Type 0} → (Mode → Done Outcome H W) → ℕ → H → W → Given → Done Outcome H W
