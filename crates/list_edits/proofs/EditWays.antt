@@ -1,9 +1,10 @@
 -- The ways out of the edits of a chain: a place written, a range put in or refused, and a part taken out. Assumes nothing.
 use Prim.Native.Nat.{ℕ, _+_, _-_}
-use mathlib.Core.Bool.{true, false}
-use mathlib.Core.List.{List}
+use mathlib.Core.Bool.{Bool, true, false}
+use mathlib.Core.List.{List, [], append-nil}
 use mathlib.Core.Path.{_≡_, refl, sym, ap, ap₂, _∙_}
 use native.Mathlib.Omega.{arith}
+use lib.Dec.{eqb}
 use lib.ListN.{length}
 use Rattle.units.specs.Words.{rangeOf, one}
 use Rattle.units.specs.declared.Addr.{Addr}
@@ -13,6 +14,9 @@ use Rattle.units.specs.declared.aims.Aim.{Aim}
 use Rattle.units.specs.declared.rules.Arena.{Arena}
 use Rattle.units.proofs.Facts.{GoodRange, range-facts}
 use Rattle.model.specs.Lists.{overlaps}
+use Rattle.model.proofs.Places.{overlaps-front}
+use Rattle.model.proofs.Reaching.{reach, reach-none}
+use Rattle.list_words.proofs.Keeping.{Placed, none-there, kept-reach}
 use Rattle.list_words.specs.declared.Chain.{Chain}
 use Rattle.list_words.specs.declared.Spot.{Spot}
 use Rattle.list_edits.specs.Chains.{metOf, Held, mayAsk, Holding, editedNumber, putOf, putWords, cutChain, cutWords}
@@ -71,6 +75,15 @@ module _ (a : Arena) (ws : List ℕ) (c : Chain) (y : Range) (s : Spot) (k : Hel
           small = omega (arith, r .order, r .upto, top);
         };
       }
+
+  -- no range reaches the base
+  pub at-none : (r : Bool) → r ≡ eqb (s .here .base .0) 0 → r ≡ true → false ≡ overlaps (y .base .0) (y .limit .0) (metOf a ws c)
+  at-none r er t =
+      let b = y .base .0 in
+      let met = metOf a ws c in
+      let p : Placed met (reach b met) s = rw (← k .kept) at (kept-reach (a .base .0) (a .limit .0) met (fit .place .arena .above) (fit .apart) (y .base)) in
+      let f = reach-none b (a .base .0) (a .limit .0) met (fit .apart) (none-there met (reach b met) s p r er t) in
+      sym (ap (overlaps b (y .limit .0)) (sym (append-nil met)) ∙ overlaps-front b (y .limit .0) (rules .order) met [] f)
 
   module _ (p : Place) (ep : p ≡ placeOf a ws y s) where
     pub at-overlap : p ≡ Place.Overlap → true ≡ overlaps (y .base .0) (y .limit .0) (metOf a ws c)

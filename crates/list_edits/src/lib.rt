@@ -134,12 +134,15 @@ pub fn put_at(arena: Arena, words: &mut [u64], chain: Chain, range: Range, spot:
     put(words, arena.base, chain, range, place)
 }
 
-// Whether a range overlaps one of a sound list, by the first range that reaches its base.
+// Whether a range overlaps one of a sound list, by the first range that reaches its base. Where none does, none overlaps.
 pub fn overlaps_at(arena: Arena, words: &[u64], chain: Chain, range: Range, spot: Spot) -> bool
     requires { ⌜ Held arena (now words) chain (Aim.Reach (range .base)) spot ⌝ }
     requires { ⌜ mayAsk arena range ≡ true ⌝ }
     ensures { λ r. ⌜ r ≡ overlaps (range .base .0) (range .limit .0) (metOf arena (now (words .entry)) chain) ⌝ }
 {
+    if spot.here.base.is_zero() {
+        return false;
+    }
     match placing::place(arena, words, range, spot) {
         Place::Overlap => true,
         Place::Free(_) => false,

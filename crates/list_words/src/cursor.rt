@@ -21,7 +21,7 @@ pub struct Cursor {
 
 impl Cursor {
     // Before the first range.
-    pub(crate) fn start(arena: Arena, head: Addr) -> Cursor
+    pub fn start(arena: Arena, head: Addr) -> Cursor
         ensures { λ r. ⌜ r ≡ startAt arena head ⌝ }
     {
         let low = arena.base;
@@ -35,7 +35,7 @@ impl Cursor {
     }
 
     // One range further on.
-    pub(crate) fn on(self, end: Addr, next: Addr) -> Cursor
+    pub fn on(self, end: Addr, next: Addr) -> Cursor
         requires { ⌜ Near self (end .0) ⌝ }
         ensures { λ r. ⌜ r ≡ onward self (end .0) next ⌝ }
     {
@@ -51,7 +51,7 @@ impl Cursor {
     }
 
     // Whether the ranges and bytes met are those of the handle.
-    pub(crate) fn counts(self, chain: Chain) -> Soundness
+    pub fn counts(self, chain: Chain) -> Soundness
         ensures { λ r. ⌜ r ≡ soundnessOf (countsOf self chain) ⌝ }
     {
         if chain.ranges != self.count {

@@ -2,7 +2,7 @@
 //
 // Every function here is proved, and the crate assumes nothing of its own. These are inner functions: a `requires`
 // says what the calls of the land have checked before.
-mod cursor;
+pub mod cursor;
 mod seeks;
 
 use cursor::Cursor;
@@ -16,8 +16,10 @@ use units::Soundness;
 ghost use mathlib.Core.Path.{_≡_};
 ghost use Prim.Native.Nat.{_≤_};
 ghost use lib.ListN.{length};
+ghost use Rattle.units.specs.Aims.{none-range};
+ghost use Rattle.units.specs.Words.{addr};
 ghost use Rattle.list_words.specs.Words.{stepAt};
-ghost use Rattle.list_words.specs.Surveys.{Ready, surveyOf};
+ghost use Rattle.list_words.specs.Surveys.{Ready, spot, at-end, surveyOf};
 
 // What the words say of a range at an address: its limit and the next range's base, or what is at fault.
 pub enum Met {
@@ -46,6 +48,31 @@ pub enum Verdict {
     Sound(Spot),
 }
 
+impl Spot {
+    // No range, behind the range `last`.
+    pub fn behind(last: Range) -> Spot
+        ensures { λ r. ⌜ r ≡ spot last none-range (addr 0) ⌝ }
+    {
+        let here = Range::none();
+        let next = Addr::new(0);
+        Spot {
+            prev: last,
+            here,
+            next,
+        }
+    }
+
+    // What is kept at the end of a walk, behind its last range where it is none.
+    pub fn at_end(self, last: Range) -> Spot
+        ensures { λ r. ⌜ r ≡ at-end last self ⌝ }
+    {
+        if self.here.base.is_zero() {
+            return Spot::behind(last);
+        }
+        self
+    }
+}
+
 // What the words say of a range at `at`, where none may begin below `low`.
 pub fn step(arena: Arena, words: &[u64], low: Addr, at: Addr) -> Met
     requires { ⌜ Ready arena (length (now words)) ⌝ }
@@ -55,7 +82,7 @@ pub fn step(arena: Arena, words: &[u64], low: Addr, at: Addr) -> Met
     if !arena.may_begin(low, at) {
         return Met::BadBase;
     }
-    let i = at.word_from(arena.base);
+    let i = arena.word_at(at);
     let w = words[i];
     if units::is_tagged(w) {
         let end = at.plus(Size::new(8));
@@ -83,14 +110,8 @@ fn weigh(arena: Arena, words: &[u64], chain: Chain, aim: Aim) -> Verdict
     requires { ⌜ Ready arena (length (now words)) ⌝ }
     ensures { λ r. ⌜ r ≡ surveyOf arena (now (words .entry)) chain aim ⌝ }
 {
-    let none = Range::none();
-    let nowhere = Addr::new(0);
-    let mut prev = none;
-    let mut kept = Spot {
-        prev: none,
-        here: none,
-        next: nowhere,
-    };
+    let mut prev = Range::none();
+    let mut kept = Spot::behind(prev);
     let mut cur = Cursor::start(arena, chain.head);
     while !cur.at.is_zero() {
         let Met::Found(end, next) = step(arena, words, cur.low, cur.at) else {
@@ -106,14 +127,7 @@ fn weigh(arena: Arena, words: &[u64], chain: Chain, aim: Aim) -> Verdict
     let Soundness::Sound = cur.counts(chain) else {
         return Verdict::Damaged;
     };
-    if kept.here.base.is_zero() {
-        return Verdict::Sound(Spot {
-            prev,
-            here: none,
-            next: nowhere,
-        });
-    }
-    Verdict::Sound(kept)
+    Verdict::Sound(kept.at_end(prev))
 }
 
 // The one walk over the list, from head to its end.

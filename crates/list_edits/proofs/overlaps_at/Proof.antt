@@ -1,8 +1,14 @@
--- `overlaps_at` meets its contract: the place of the range. Assumes nothing.
-use Rattle.list_edits.proofs.EditWays.{put-placing, at-overlap, at-free}
+-- `overlaps_at` meets its contract: none that reaches the base, or the place of the range. Assumes nothing.
+use Rattle.list_edits.proofs.EditWays.{put-placing, at-none, at-overlap, at-free}
 use borrow.Author.Needs.{needs}
 use Rattle.list_edits.proofs.overlaps_at.Statement.{statement}
 use Rattle.list_edits.proofs.overlaps_at.Tie as tie
+
+is-zero-requires : tie.Need-is-zero-requires
+is-zero-requires c κs = search needs
+
+returns : tie.Need-returns
+returns c = search at-none
 
 place-requires : tie.Need-place-requires
 place-requires c κs = search put-placing
@@ -13,11 +19,11 @@ enum-told c = search needs
 enum-told-2 : tie.Need-enum-told-2
 enum-told-2 c = search needs
 
-returns : tie.Need-returns
-returns c = search (at-overlap, at-free)
-
 returns-2 : tie.Need-returns-2
 returns-2 c = search (at-overlap, at-free)
 
+returns-3 : tie.Need-returns-3
+returns-3 c = search (at-overlap, at-free)
+
 pub overlaps-at-spec : {M : Type 1} → statement M
-overlaps-at-spec = tie.close (tie.spec place-requires enum-told enum-told-2 returns returns-2)
+overlaps-at-spec = tie.close (tie.spec is-zero-requires returns place-requires enum-told enum-told-2 returns-2 returns-3)
