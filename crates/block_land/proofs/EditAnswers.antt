@@ -21,8 +21,8 @@ use Rattle.model.proofs.Outcomes.{call-refused, call-accepted}
 use Rattle.model.proofs.Requests.{range-rules}
 use Rattle.model.proofs.Totals.{total-insert, total-delete, total-small}
 use Rattle.block_edits.specs.Edits.{Sorted, editedNumber, joined, putOf, putWords, remaining, cutOf, cutWords}
-use Rattle.block_edits.specs.Places.{Spot}
 use Rattle.block_edits.specs.declared.Edited.{Edited}
+use Rattle.block_words.specs.Surveys.{Spot}
 use Rattle.block_words.specs.declared.Entry.{Entry}
 use Rattle.block_edits.proofs.Entering.{reach-spot}
 use Rattle.block_edits.proofs.Answered.{put-refused, put-full, put-done, put-words, cut-refused, cut-full, cut-done, cut-words}

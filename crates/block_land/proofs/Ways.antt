@@ -27,7 +27,7 @@ use Rattle.block_words.specs.declared.Entry.{Entry}
 use Rattle.block_words.specs.Words.{fill}
 use Rattle.block_words.specs.declared.Verdict.{Verdict}
 use Rattle.block_land.specs.Calls.{refusedBy, foundNone, newLand, openedOf, openedWords}
-use Rattle.block_land.specs.Layout.{base, limit, align, setUp, sound, tableOf}
+use Rattle.block_land.specs.Layout.{base, limit, align, lent, setUp, sound, tableOf}
 use Rattle.block_land.specs.Parts.{arenaIn, lookOf}
 use Rattle.block_land.specs.declared.BlockLand.{BlockLand}
 use Rattle.block_land.specs.declared.Look.{Look}
@@ -55,15 +55,18 @@ module _ (h : BlockLand) (ws : List ℕ) (a : Arena) (ea : a ≡ arenaIn h) (x :
     good : arenaCheck (base h) (limit h) (align h) ≡ ArenaCheck.Good
     good = sym here ∙ g
 
-    pub set-up-good : length ws ≤ 2097152 → SetUp.Good ≡ setUpOf (setUp h ws)
+    pub set-up-lent : (t : SetUp) → t ≡ setUpOf (lent ws) → t ≡ setUpOf (setUp h ws)
     unfolding setUp
-    set-up-good k = rw (good, le-leb (length ws) 2097152 k)
+    set-up-lent t et = rw good et
 
-    pub set-up-long : 2097152 < length ws → SetUp.Bad ≡ setUpOf (setUp h ws)
-    unfolding setUp
-    set-up-long k = rw (good, lt-leb (length ws) 2097152 k)
+pub ruleset set-up-ways = (set-up-bad, set-up-lent)
 
-pub ruleset set-up-ways = (set-up-bad, set-up-good, set-up-long)
+-- the length of node space
+pub lent-good : (ws : List ℕ) → length ws ≤ 2097152 → SetUp.Good ≡ setUpOf (lent ws)
+lent-good ws k = rw (le-leb (length ws) 2097152 k)
+
+pub lent-long : (ws : List ℕ) → 2097152 < length ws → SetUp.Bad ≡ setUpOf (lent ws)
+lent-long ws k = rw (lt-leb (length ws) 2097152 k)
 
 -- THE LOOK
 pub look-ready : (h : BlockLand) (ws : List ℕ) (r : SetUp) → r ≡ setUpOf (setUp h ws) → r ≡ SetUp.Good → (a : Arena) → a ≡ arenaIn h → Ready a

@@ -28,9 +28,13 @@ align h = h .align .0
 abbrev pub arenaOf : BlockLand → List ℕ → Arena
 arenaOf h ws = record { base = base h; limit = limit h; align = align h; room = some (capacity ws) }
 
--- The fixed handle fields keep the arena rules, and node space is lent as at most 2,097,152 words.
+-- Node space is lent as at most 2,097,152 words.
+abbrev pub lent : List ℕ → Bool
+lent ws = leb (length ws) 2097152
+
+-- The fixed handle fields keep the arena rules, and node space is not too long.
 unfoldable pub setUp : BlockLand → List ℕ → Bool
-setUp h ws = goodArena (arenaCheck (base h) (limit h) (align h)) && leb (length ws) 2097152
+setUp h ws = goodArena (arenaCheck (base h) (limit h) (align h)) && lent ws
 
 unfoldable pub sound : BlockLand → List ℕ → Bool
 sound h ws = soundTable (base h) (limit h) (align h) ws (h .ranges) (h .bytes .0)

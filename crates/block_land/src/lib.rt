@@ -22,7 +22,7 @@ ghost use mathlib.Core.Bool.{true};
 ghost use mathlib.Core.Path.{_≡_};
 ghost use Rattle.units.specs.Rules.{goodAlign, setUpOf};
 ghost use Rattle.units.specs.declared.aims.Aim.{Aim};
-ghost use Rattle.block_land.specs.Layout.{setUp};
+ghost use Rattle.block_land.specs.Layout.{lent, setUp};
 ghost use Rattle.block_land.specs.Calls.{refusedBy, changed, walked};
 ghost use Rattle.block_land.specs.Parts.{arenaIn, lookOf, closedWith};
 
@@ -77,6 +77,17 @@ fn refused(land: BlockLand, answer: u64) -> Changed
     }
 }
 
+// Whether node space is not too long.
+pub fn lent(nodes: &[u64]) -> SetUp
+    ensures { λ r. ⌜ r ≡ setUpOf (lent (now (nodes .entry))) ⌝ }
+{
+    if nodes.len() <= 2097152 {
+        SetUp::Good
+    } else {
+        SetUp::Bad
+    }
+}
+
 impl BlockLand {
     // The arena of the handle.
     pub fn arena(self) -> Arena
@@ -103,11 +114,7 @@ impl BlockLand {
         let ArenaCheck::Good = self.arena().check() else {
             return SetUp::Bad;
         };
-        if nodes.len() <= 2097152 {
-            SetUp::Good
-        } else {
-            SetUp::Bad
-        }
+        lent(nodes)
     }
 
     // The one scan of a call.

@@ -1,87 +1,128 @@
--- The scan up to the first range that fits: what holds at each turn of the loop of `seek`, and its ways out. Assumes nothing.
-use Prim.Native.Nat.{ℕ, _+_, _-_, _/_, _≤_, _<_}
+-- The entries of a good table that are read at a place: the ways out of `entry_at`, `reached`, `above` and `entry`. Assumes nothing.
+use Prim.Native.Nat.{ℕ, zero, suc, _+_, _*_, _/_, _≤_, _<_}
 use mathlib.Core.Bool.{Bool, true, false}
-use mathlib.Core.List.{List, _∷_}
-use mathlib.Core.Path.{_≡_, refl, sym, _∙_, ap, ap₂, subst}
+use mathlib.Core.List.{List, [], _∷_}
+use mathlib.Core.Path.{_≡_, refl, sym, _∙_, ap}
 use native.Mathlib.Omega.{arith}
-use lib.ListN.{length}
-use Rattle.units.specs.Aims.{none-range, fits}
+use lib.Dec.{ltb}
+use lib.ListN.{length, getD}
+use borrow.Author.Tests.{lt-leb, le-leb, ltb-true, ltb-false}
+use Rattle.units.specs.Aims.{none-range}
+use Rattle.units.specs.declared.Addr.{Addr}
 use Rattle.units.specs.declared.Range.{Range}
 use Rattle.units.specs.declared.Size.{Size}
-use Rattle.units.specs.declared.aims.Goal.{Goal}
-use Rattle.units.specs.declared.rules.Arena.{Arena}
+use Rattle.units.specs.declared.Which.{Which}
+use Rattle.units.specs.declared.aims.Aim.{Aim}
+use Rattle.units.proofs.Tests.{by, tests}
 use Rattle.model.specs.Marks as marks
+use Rattle.model.specs.Marks.{rng}
+use Rattle.model.specs.Lists.{Apart}
 use Rattle.block_words.specs.Words.{pairs}
-use Rattle.block_words.specs.Tallies.{pairAt, behind, startOf, stepOf, judged, Standing}
-use Rattle.block_words.specs.Surveys.{entry, sought, SoughtBy}
-use Rattle.block_words.specs.declared.seeks.Sought.{Sought}
-use Rattle.block_words.specs.declared.tally.Step.{Step}
-use Rattle.block_words.specs.declared.tally.Tally.{Tally}
-use Rattle.block_words.proofs.Pairs.{pairs-end}
-use Rattle.block_words.proofs.Judging.{behind-here, pair-order, next-is, Along, along-start, along-broken, along-next}
+use Rattle.block_words.specs.Tallies.{pairAt}
+use Rattle.block_words.specs.Surveys.{entry, entryAt, entryOf, Rising, Spot}
+use Rattle.block_words.specs.declared.Entry.{Entry}
+use Rattle.block_words.proofs.Pairs.{length-pairs, get-pair}
+use Rattle.block_words.proofs.Staying.{at-inside, at-end, kept-at}
 
-module _ (a : Arena) (ws : List ℕ) (n : ℕ) where
-  pub all-behind : behind ws n 0 ≡ pairs ws n
-  all-behind = let y : n - 0 ≡ n = omega arith in rw y
+-- range number i of n, or none
+module _ (ws : List ℕ) (n i : ℕ) (r : Range) where
+  pub entry-inside : i < n → r ≡ pairAt ws i → entry i r ≡ entryAt ws n i
+  entry-inside h e = ap (entry i) e ∙ sym (at-inside ws n i h)
 
-  pub standing-start : n ≤ length ws / 2 → Standing ws n (startOf a)
-  standing-start k = record { fits = k; upto = omega arith; room = omega arith }
+  pub entry-none : n ≤ i → r ≡ none-range → entry n r ≡ entryAt ws n i
+  entry-none h e = ap (entry n) e ∙ sym (at-end ws n i h)
 
-  -- what is judged from the start is judged of all pairs
-  pub whole-start : (t : Tally) → Along ws n (startOf a) t → (bytes : Size) →
-      judged a bytes t (behind ws n (t .next)) ≡ judged a bytes (startOf a) (pairs ws n)
-  whole-start t j bytes = j .whole a bytes ∙ ap (judged a bytes (startOf a)) all-behind
+pub ruleset entries = (entry-inside, entry-none)
 
-  pub broken-start : (t : Tally) → Along ws n (startOf a) t → t .next < n → (v : Step) → v ≡ stepOf t ws → v ≡ Step.Damaged →
-      (bytes : Size) → judged a bytes (startOf a) (pairs ws n) ≡ false
-  broken-start t j k v ev e bytes = sym (ap (judged a bytes (startOf a)) all-behind) ∙ along-broken ws n (startOf a) t j k v ev e a bytes
+-- a range of a sorted list: it is not empty, and begins above those before it
+range-order : (lo hi : ℕ) (rs : List marks.Range) (k : ℕ) → Apart lo hi rs → k < length rs →
+    (lo ≤ getD rs k (rng 0 0) .base) × (getD rs k (rng 0 0) .base < getD rs k (rng 0 0) .limit)
+range-order lo hi [] k a h = absurd (omega arith)
+range-order lo hi (r ∷ rs) zero a h = (a .0, a .1)
+range-order lo hi (r ∷ rs) (suc k) a h = let p = range-order (suc (r .limit)) hi rs k (a .3) (omega arith) in (omega arith, p .1)
 
--- nothing before the tally fits
-pub record Seeking (ws : List ℕ) (n : ℕ) (g : Goal) (s t : Tally) : Type 0 where
-  pub along : Along ws n s t
-  pub left : sought g (t .next) (behind ws n (t .next)) ≡ sought g (s .next) (behind ws n (s .next))
+range-above : (lo hi : ℕ) (rs : List marks.Range) (k : ℕ) → Apart lo hi rs → k + 1 < length rs →
+    getD rs k (rng 0 0) .limit < getD rs (k + 1) (rng 0 0) .base
+range-above lo hi [] k a h = absurd (omega arith)
+range-above lo hi (r ∷ []) k a h = absurd (omega arith)
+range-above lo hi (r ∷ q ∷ rs) zero a h = a .3 .0
+range-above lo hi (r ∷ q ∷ rs) (suc k) a h =
+    let e : suc k + 1 ≡ suc (k + 1) = omega arith in
+    rw e (range-above (suc (r .limit)) hi (q ∷ rs) k (a .3) (omega arith))
 
-module _ (a : Arena) (ws : List ℕ) (n : ℕ) (g : Goal) (s : Tally) (es : s ≡ startOf a) where
-  pub seek-start : n ≤ length ws / 2 → Seeking ws n g s s
-  seek-start k = record { along = along-start ws n s (rw es (standing-start a ws n k)); left = refl }
+module _ (ws : List ℕ) (n : ℕ) (s : Rising ws n) where
+  pub rising-inside : (i : ℕ) → i < n → i < length ws / 2
+  rising-inside i k = omega (arith, s .fits)
 
-  module _ (t : Tally) (j : Seeking ws n g s t) where
-    here : Seeking ws n g (startOf a) t
-    here = subst (λ (x : Tally). Seeking ws n g x t) es j
+  module _ (i : ℕ) (k : i < n) where
+    pub pair-order : getD ws (2 * i) 0 < getD ws (2 * i + 1) 0
+    pair-order =
+        let l = length-pairs ws n (s .fits) in
+        let o = range-order (s .low) (s .high) (pairs ws n) i (s .apart) (omega arith) .1 in
+        rw (get-pair ws n i k (s .fits)) at o
 
-    all : sought g (t .next) (behind ws n (t .next)) ≡ sought g 0 (pairs ws n)
-    all = here .left ∙ ap (sought g 0) (all-behind a ws n)
+    pub pair-above : 0 < getD ws (2 * i) 0
+    pair-above =
+        let l = length-pairs ws n (s .fits) in
+        let z = s .above in
+        let o = range-order (s .low) (s .high) (pairs ws n) i (s .apart) (omega arith) .0 in
+        let p : s .low ≤ getD ws (2 * i) 0 = rw (get-pair ws n i k (s .fits)) at o in
+        omega arith
 
-    module _ (k : t .next < n) (v : Step) (ev : v ≡ stepOf t ws) where
-      pub seek-broken : v ≡ Step.Damaged → SoughtBy a ws n (sought g 0) Sought.Broken
-      seek-broken e = broken-start a ws n t (here .along) k v ev e
+    pub rising-order : (r : Range) → r ≡ pairAt ws i → r .base .0 ≤ r .limit .0
+    rising-order r e = let o = pair-order in rw e (omega arith)
 
-      module _ (u : Tally) (e : v ≡ Step.Good u) (r : Range) (er : r ≡ pairAt ws (t .next)) where
-        pub seek-order : r .base .0 ≤ r .limit .0
-        seek-order = let o = pair-order ws n t (j .along .standing) k v ev u e in rw er (omega arith)
+  pub next-above : (i : ℕ) → i + 1 < n → getD ws (2 * i + 1) 0 < getD ws (2 * (i + 1)) 0
+  next-above i k =
+      let l = length-pairs ws n (s .fits) in
+      let o = range-above (s .low) (s .high) (pairs ws n) i (s .apart) (omega arith) in
+      rw (get-pair ws n i (omega arith) (s .fits), get-pair ws n (i + 1) k (s .fits)) at o
 
-        module _ (b : Bool) (eb : b ≡ fits g r) where
-          tested : b ≡ fits g (pairAt ws (t .next))
-          tested = eb ∙ ap (fits g) er
+  -- no range is kept for no aim
+  pub nothing-kept : (q : Entry) → q ≡ entryAt ws n n → q ≡ entryOf Aim.Nothing (pairs ws n)
+  nothing-kept q e = e ∙ kept-at ws n s Aim.Nothing refl n (λ j h k. refl) (λ h. absurd (omega arith))
 
-          left-here : sought g (t .next) (marks.plain (pairAt ws (t .next)) ∷ behind ws n (t .next + 1)) ≡ sought g (t .next) (behind ws n (t .next))
-          left-here = sym (ap (sought g (t .next)) (behind-here ws n t (j .along .standing) k v ev))
+  -- at the first range that reaches an address
+  module _ (x : Addr) (k : ℕ) (p : Spot ws n (x .0) k) where
+    pub reach-kept : (q : Entry) → q ≡ entryAt ws n k → q ≡ entryOf (Aim.Reach x) (pairs ws n)
+    reach-kept q e =
+        e ∙ kept-at ws n s (Aim.Reach x) refl k
+        (λ j h m. lt-leb (x .0) (getD ws (2 * j + 1) 0) (p .below j h))
+        (λ h. le-leb (x .0) (getD ws (2 * k + 1) 0) (p .reach h))
 
-          pub seek-at : b ≡ true → SoughtBy a ws n (sought g 0) (Sought.At (entry (t .next) r) u)
-          seek-at fb =
-              let w : entry (t .next) (pairAt ws (t .next)) ≡ sought g (t .next) (behind ws n (t .next)) = rw (sym tested ∙ fb) at left-here in
-              let p = along-next ws n (startOf a) t (here .along) k v ev u e in
-              record { standing = p .standing; whole = whole-start a ws n u p; is = λ c. ap (entry (t .next)) er ∙ w ∙ all }
+    below-it : (j : ℕ) → j < k → j < n → getD ws (2 * j) 0 < x .0
+    below-it j h m = let o = pair-order j m in let b = p .below j h in omega arith
 
-          pub seek-next : b ≡ false → Seeking ws n g s u
-          seek-next fb =
-              let w : sought g (t .next + 1) (behind ws n (t .next + 1)) ≡ sought g (t .next) (behind ws n (t .next)) = rw (sym tested ∙ fb) at left-here in
-              record { along = along-next ws n s t (j .along) k v ev u e; left = rw (next-is ws n t (j .along .standing) k v ev u e) (w ∙ j .left) }
+    module _ (e : Entry) (ee : e ≡ entryAt ws n k) (b : Bool) (eb : b ≡ ltb (e .here .base .0) (x .0)) where
+      here-base : k < n → ltb (getD ws (2 * k) 0) (x .0) ≡ b
+      here-base h = sym (eb ∙ ap (λ (y : Entry). ltb (y .here .base .0) (x .0)) (ee ∙ at-inside ws n k h))
 
-    pub seek-end : n ≤ t .next → (r : Range) → r ≡ none-range → SoughtBy a ws n (sought g 0) (Sought.At (entry n r) t)
-    seek-end k r er =
-        let q : n ≡ t .next = omega (arith, j .along .standing .upto) in
-        let w = sym (ap (sought g (t .next)) (pairs-end ws n (t .next) k)) ∙ all in
-        record { standing = j .along .standing; whole = whole-start a ws n t (here .along); is = λ c. ap₂ entry q er ∙ w }
+      pub from-here : b ≡ false → e ≡ entryOf (Aim.From x) (pairs ws n)
+      from-here f =
+          ee ∙ kept-at ws n s (Aim.From x) refl k
+          (λ j h m. lt-leb (x .0) (getD ws (2 * j) 0) (below-it j h m))
+          (λ h. le-leb (x .0) (getD ws (2 * k) 0) (ltb-false (getD ws (2 * k) 0) (x .0) (here-base h ∙ f)))
 
-pub ruleset seekings = (seek-start, seek-broken, seek-order, seek-at, seek-next, seek-end)
+      pub from-next : b ≡ true → (q : Entry) → q ≡ entryAt ws n (k + 1) → q ≡ entryOf (Aim.From x) (pairs ws n)
+      from-next f q eq =
+          eq ∙ kept-at ws n s (Aim.From x) refl (k + 1)
+          (λ j h m. lt-leb (x .0) (getD ws (2 * j) 0) (before j h m))
+          (λ h. let o = next-above k h in let r = p .reach (omega arith) in le-leb (x .0) (getD ws (2 * (k + 1)) 0) (omega arith))
+        where
+          before : (j : ℕ) → j < k + 1 → j < n → getD ws (2 * j) 0 < x .0
+          before j h m =
+              by (ltb j k)
+              (λ t. below-it j (ltb-true j k t) m)
+              (λ t. let u : k ≡ j = omega tests in
+              let w : getD ws (2 * k) 0 < x .0 = ltb-true (getD ws (2 * k) 0) (x .0) (here-base (omega arith) ∙ f) in
+              rw u at w)
+
+-- an aim and a choice by their cases
+pub aim-as : (rs : List marks.Range) (aim v : Aim) → aim ≡ v → (e : Entry) → e ≡ entryOf v rs → e ≡ entryOf aim rs
+aim-as rs aim v a e k = k ∙ ap (λ (x : Aim). entryOf x rs) (sym a)
+
+pub which-as : (rs : List marks.Range) (size : Size) (which v : Which) → which ≡ v → (e : Entry) → e ≡ entryOf (Aim.Find v size) rs →
+    e ≡ entryOf (Aim.Find which size) rs
+which-as rs size which v w e k = k ∙ ap (λ (x : Which). entryOf (Aim.Find x size) rs) (sym w)
+
+pub ruleset places = (nothing-kept, reach-kept, from-here, from-next, aim-as)

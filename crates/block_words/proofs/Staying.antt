@@ -1,83 +1,116 @@
--- An aim that keeps the first range that it takes keeps the first range that fits its goal, and the ways out of `first`. Assumes nothing.
-use Prim.Native.Nat.{ℕ, suc, _+_, _≤_, _<_}
-use mathlib.Core.Bool.{true, false}
+-- What an aim keeps of ranges, by the number of the one that it takes first or last. Assumes nothing.
+use Prim.Native.Nat.{ℕ, zero, suc, _+_, _≤_, _<_}
+use mathlib.Core.Bool.{Bool, true, false, cond}
 use mathlib.Core.List.{List, [], _∷_}
-use mathlib.Core.Path.{_≡_, refl, sym, _∙_, ap}
+use mathlib.Core.Path.{_≡_, refl, sym, _∙_, ap, ap₂}
 use native.Mathlib.Omega.{arith}
-use lib.ListN.{length}
-use borrow.Author.Tests.{ne-eqb}
-use Rattle.units.specs.Aims.{none-range, isNone, takes, keepsFirst, fits}
-use Rattle.units.specs.declared.Addr.{Addr}
-use Rattle.units.specs.declared.Range.{Range}
-use Rattle.units.specs.declared.Size.{Size}
-use Rattle.units.specs.declared.Which.{Which}
+use lib.Dec.{ltb}
+use lib.ListN.{length, getD}
+use borrow.Author.Tests.{ne-eqb, lt-ltb, le-ltb, ltb-true, ltb-false}
+use Rattle.units.specs.Aims.{none-range, isNone, takes, keepsFirst}
+use Rattle.units.specs.declared.Range as units
 use Rattle.units.specs.declared.aims.Aim.{Aim}
-use Rattle.units.specs.declared.aims.Goal.{Goal}
-use Rattle.units.specs.declared.rules.Arena.{Arena}
+use Rattle.units.proofs.Fitting.{kept-stays}
 use Rattle.units.proofs.Tests.{by}
-use Rattle.units.proofs.Facts.{arena-facts}
-use Rattle.units.proofs.Fitting.{kept-stays, Same, goal-nothing, goal-reach, goal-from, goal-find}
-use Rattle.model.specs.Marks as marks
-use Rattle.model.specs.Marks.{struct}
+use Rattle.model.specs.Marks.{Range, rng, struct}
 use Rattle.model.specs.Lists.{Apart}
-use Rattle.block_words.specs.Words.{pairs, canonical}
-use Rattle.block_words.specs.Tallies.{Ready}
-use Rattle.block_words.specs.Surveys.{entry, sought, entered, entryOf, SoughtBy}
+use Rattle.block_words.specs.Words.{pairs}
+use Rattle.block_words.specs.Tallies.{pairAt}
+use Rattle.block_words.specs.Surveys.{entry, entryAt, entered, entryOf, Rising}
 use Rattle.block_words.specs.declared.Entry.{Entry}
-use Rattle.block_words.specs.declared.seeks.Sought.{Sought}
-use Rattle.block_words.proofs.Canonical.{canonical-apart}
+use Rattle.block_words.proofs.Pairs.{length-pairs, get-pair}
 
-module _ (aim : Aim) (e : keepsFirst aim ≡ true) where
-  pub entered-stays : (k : Entry) → isNone (k .here) ≡ false → (i : ℕ) (rs : List marks.Range) → entered aim k i rs ≡ k
-  entered-stays k z i [] = refl
-  entered-stays k z i (r ∷ rs) = rw (kept-stays aim e (k .here) (struct r) z) (entered-stays k z (i + 1) rs)
+abbrev at : List Range → ℕ → units.Range
+at rs j = struct (getD rs j (rng 0 0))
 
-  -- a goal is the aim's where it fits what the aim takes first
-  module _ (g : Goal) (hi : ℕ) (same : (r : Range) → r .limit .0 ≤ hi → takes aim none-range r ≡ fits g r) where
-    entered-sought : (lo i n : ℕ) (rs : List marks.Range) → 0 < lo → Apart lo hi rs → n ≡ i + length rs → entered aim (entry n none-range) i rs ≡ sought g i rs
-    entered-sought lo i n [] z a en = let q : n ≡ i = omega arith in ap (λ (x : ℕ). entry x none-range) q
-    entered-sought lo i n (r ∷ rs) z a en =
-        by (takes aim none-range (struct r))
-        (λ t. let f : fits g (struct r) ≡ true = sym (same (struct r) (a .2)) ∙ t in
-        rw (t, f) (entered-stays (entry i (struct r)) (ne-eqb (r .base) 0 (λ q. omega arith)) (i + 1) rs))
-        (λ t. let f : fits g (struct r) ≡ false = sym (same (struct r) (a .2)) ∙ t in
-        rw (t, f) (entered-sought (suc (r .limit)) (i + 1) n rs (omega arith) (a .3) (omega arith)))
+module _ (aim : Aim) where
+  -- what is kept so far stays where no range is taken instead
+  entered-same : (e : Entry) (i : ℕ) (rs : List Range) → ((j : ℕ) → j < length rs → takes aim (e .here) (at rs j) ≡ false) → entered aim e i rs ≡ e
+  entered-same e i [] f = refl
+  entered-same e i (r ∷ rs) f = rw (f 0 (omega arith)) (entered-same e (i + 1) rs (λ j h. f (suc j) (omega arith)))
 
--- what is sought of all ranges, by two ways to say it
-sought-as : (a : Arena) (ws : List ℕ) (n : ℕ) (f g : List marks.Range → Entry) →
-    (canonical (a .base .0) (a .limit .0) (a .align .0) (pairs ws n) ≡ true → f (pairs ws n) ≡ g (pairs ws n)) →
-    (q : Sought) → SoughtBy a ws n f q → SoughtBy a ws n g q
-sought-as a ws n f g e Sought.Broken h = h
-sought-as a ws n f g e (Sought.At s c) h = record { standing = h .standing; whole = h .whole; is = λ u. h .is u ∙ e u }
+  -- the last range that is taken, whatever is kept so far
+  entered-last : (e : Entry) (i : ℕ) (rs : List Range) (k : ℕ) → k < length rs → ((q : units.Range) → takes aim q (at rs k) ≡ true) →
+      ((q : units.Range) (j : ℕ) → k < j → j < length rs → takes aim q (at rs j) ≡ false) → entered aim e i rs ≡ entry (i + k) (at rs k)
+  entered-last e i [] k h t f = absurd (omega arith)
+  entered-last e i (r ∷ rs) zero h t f =
+      let m : i + 0 ≡ i = omega arith in
+      rw (t (e .here), m) (entered-same (entry i (struct r)) (i + 1) rs (λ j q. f (struct r) (suc j) (omega arith) (omega arith)))
+  entered-last e i (r ∷ rs) (suc k) h t f =
+      let m : i + suc k ≡ i + 1 + k = omega arith in
+      rw m
+      (entered-last (cond (takes aim (e .here) (struct r)) (entry i (struct r)) e) (i + 1) rs k (omega arith) t
+      (λ q j p l. f q (suc j) (omega arith) (omega arith)))
 
-module _ (a : Arena) (ws : List ℕ) (n : ℕ) (ready : Ready a) (aim : Aim) (stay : keepsFirst aim ≡ true)
-    (x y : Addr) (z : Size) (q : Sought) (i : SoughtBy a ws n (sought (record { reach = x; from = y; size = z }) 0) q) where
-  goal-sought : Same x y z aim (a .limit .0) → SoughtBy a ws n (entryOf aim) q
-  goal-sought same =
-      let g : Goal = record { reach = x; from = y; size = z } in
-      let k = arena-facts (a .base .0) (a .limit .0) (a .align .0) ready in
-      sought-as a ws n (sought g 0) (entryOf aim)
-      (λ u. let p = canonical-apart (a .base .0) (a .limit .0) (a .align .0) (pairs ws n) u in
-      sym (entered-sought aim stay g (a .limit .0) same (a .base .0) 0 (length (pairs ws n)) (pairs ws n) (omega arith) (p .0) (omega arith)))
-      q i
+  module _ (e : keepsFirst aim ≡ true) where
+    pub entered-stays : (k : Entry) → isNone (k .here) ≡ false → (i : ℕ) (rs : List Range) → entered aim k i rs ≡ k
+    entered-stays k z i [] = refl
+    entered-stays k z i (r ∷ rs) = rw (kept-stays aim e (k .here) (struct r) z) (entered-stays k z (i + 1) rs)
 
-  pub first-nothing : aim ≡ Aim.Nothing → x .0 ≡ 18446744073709551615 → SoughtBy a ws n (entryOf aim) q
-  first-nothing e ex =
-      let k = arena-facts (a .base .0) (a .limit .0) (a .align .0) ready in
-      goal-sought (goal-nothing x y z aim (a .limit .0) (omega arith) e ex)
+    -- the first range that is taken
+    entered-first : (lo hi i n : ℕ) (rs : List Range) (k : ℕ) → 0 < lo → Apart lo hi rs → k < length rs →
+        ((j : ℕ) → j < k → takes aim none-range (at rs j) ≡ false) → takes aim none-range (at rs k) ≡ true →
+        entered aim (entry n none-range) i rs ≡ entry (i + k) (at rs k)
+    entered-first lo hi i n [] k z a h f t = absurd (omega arith)
+    entered-first lo hi i n (r ∷ rs) zero z a h f t =
+        let m : i + 0 ≡ i = omega arith in
+        rw (t, m) (entered-stays (entry i (struct r)) (ne-eqb (r .base) 0 (λ q. omega arith)) (i + 1) rs)
+    entered-first lo hi i n (r ∷ rs) (suc k) z a h f t =
+        let m : i + suc k ≡ i + 1 + k = omega arith in
+        rw (f 0 (omega arith), m)
+        (entered-first (suc (r .limit)) hi (i + 1) n rs k (omega arith) (a .3) (omega arith) (λ j q. f (suc j) (omega arith)) t)
 
-  pub first-reach : (v : Addr) → aim ≡ Aim.Reach v → x ≡ v → y .0 ≡ 0 → z .0 ≡ 0 → SoughtBy a ws n (entryOf aim) q
-  first-reach v e ex ey ez = goal-sought (goal-reach x y z aim (a .limit .0) v e ex ey ez)
+-- range number i of n
+pub at-inside : (ws : List ℕ) (n i : ℕ) → i < n → entryAt ws n i ≡ entry i (pairAt ws i)
+at-inside ws n i h = rw (lt-ltb i n h)
 
-  pub first-from : (v : Addr) → aim ≡ Aim.From v → x .0 ≡ 0 → y ≡ v → z .0 ≡ 0 → SoughtBy a ws n (entryOf aim) q
-  first-from v e ex ey ez = goal-sought (goal-from x y z aim (a .limit .0) v e ex ey ez)
+pub at-end : (ws : List ℕ) (n i : ℕ) → n ≤ i → entryAt ws n i ≡ entry n none-range
+at-end ws n i h = rw (le-ltb i n h)
 
-  pub first-find : (w : Which) (m : Size) → aim ≡ Aim.Find w m → x .0 ≡ 0 → y .0 ≡ 0 → z ≡ m → SoughtBy a ws n (entryOf aim) q
-  first-find w m e ex ey ez = goal-sought (goal-find x y z aim (a .limit .0) w m e ex ey ez)
+-- the same of the pairs of a table
+module _ (ws : List ℕ) (n : ℕ) (s : Rising ws n) (aim : Aim) where
+  abbrev rs : List Range
+  rs = pairs ws n
 
--- the way out of `found` for the first range
-pub found-first : (a : Arena) (ws : List ℕ) (n : ℕ) → Ready a → (w : Which) (m : Size) → w ≡ Which.First → (x y : Addr) → x .0 ≡ 0 → y .0 ≡ 0 →
-    (q : Sought) → SoughtBy a ws n (sought (record { reach = x; from = y; size = m }) 0) q → SoughtBy a ws n (entryOf (Aim.Find w m)) q
-found-first a ws n ready w m e x y ex ey q i =
-    let stay : keepsFirst (Aim.Find w m) ≡ true = rw e in
-    first-find a ws n ready (Aim.Find w m) stay x y m q i w m refl ex ey refl
+  long : length (pairs ws n) ≡ n
+  long = length-pairs ws n (s .fits)
+
+  by-words : (q : units.Range) (j : ℕ) (t : Bool) → j < n → takes aim q (pairAt ws j) ≡ t → takes aim q (at (pairs ws n) j) ≡ t
+  by-words q j t h e = ap (λ (r : Range). takes aim q (struct r)) (get-pair ws n j h (s .fits)) ∙ e
+
+  same-entry : (k : ℕ) → k < n → entry k (pairAt ws k) ≡ entry (0 + k) (at (pairs ws n) k)
+  same-entry k h =
+      let z : k ≡ 0 + k = omega arith in
+      ap₂ (λ (i : ℕ) (q : Range). entry i (struct q)) z (sym (get-pair ws n k h (s .fits)))
+
+  pub kept-none : ((j : ℕ) → j < n → takes aim none-range (pairAt ws j) ≡ false) → entry n none-range ≡ entryOf aim (pairs ws n)
+  kept-none f =
+      let l = long in
+      ap (λ (x : ℕ). entry x none-range) (sym long)
+      ∙ sym (entered-same aim (entry (length rs) none-range) 0 rs
+      (λ j h. by-words none-range j false (omega arith) (f j (omega arith))))
+
+  pub kept-last : (k : ℕ) → k < n → ((q : units.Range) → takes aim q (pairAt ws k) ≡ true) →
+      ((q : units.Range) (j : ℕ) → k < j → j < n → takes aim q (pairAt ws j) ≡ false) → entry k (pairAt ws k) ≡ entryOf aim (pairs ws n)
+  kept-last k h t f =
+      let l = long in
+      same-entry k h
+      ∙ sym (entered-last aim (entry (length rs) none-range) 0 rs k (omega arith)
+      (λ q. by-words q k true h (t q))
+      (λ q j p m. by-words q j false (omega arith) (f q j p (omega arith))))
+
+  module _ (stay : keepsFirst aim ≡ true) (k : ℕ) (f : (j : ℕ) → j < k → j < n → takes aim none-range (pairAt ws j) ≡ false) where
+    kept-first : k < n → takes aim none-range (pairAt ws k) ≡ true → entry k (pairAt ws k) ≡ entryOf aim (pairs ws n)
+    kept-first h t =
+        let l = long in
+        same-entry k h
+        ∙ sym (entered-first aim stay (s .low) (s .high) 0 (length rs) rs k (s .above) (s .apart) (omega arith)
+        (λ j q. by-words none-range j false (omega arith) (f j q (omega arith)))
+        (by-words none-range k true h t))
+
+    -- range number k, or none
+    pub kept-at : (k < n → takes aim none-range (pairAt ws k) ≡ true) → entryAt ws n k ≡ entryOf aim (pairs ws n)
+    kept-at t =
+        by (ltb k n)
+        (λ e. let h = ltb-true k n e in at-inside ws n k h ∙ kept-first h (t h))
+        (λ e. let h = ltb-false k n e in at-end ws n k h ∙ kept-none (λ j q. f j (omega arith) q))

@@ -1,12 +1,14 @@
--- What a survey finds: damage where the table is not sound, else what the aim keeps of it; and the ways out of `survey`. Assumes nothing.
+-- What is found of a table: damage where it is not sound, else what the aim keeps of it; the ways out of `tidy`, `sound` and `survey`.
+-- Assumes nothing.
 use Prim.Native.Nat.{ℕ, _*_, _/_, _≤_, _<_}
-use mathlib.Core.Bool.{Bool, true, false, not, cond}
+use mathlib.Core.Bool.{Bool, true, false, not}
 use mathlib.Core.List.{List}
-use mathlib.Core.Path.{_≡_, sym, _∙_, ap, subst}
+use mathlib.Core.Path.{_≡_, sym, _∙_, ap}
 use native.Mathlib.Omega.{arith}
 use lib.Dec.{leb}
 use lib.ListN.{length, drop}
 use borrow.Author.Tests.{le-leb, lt-leb, leb-true}
+use Rattle.units.specs.Rules.{soundnessOf, soundNumber}
 use Rattle.units.specs.declared.Size.{Size}
 use Rattle.units.specs.declared.aims.Aim.{Aim}
 use Rattle.units.specs.declared.rules.Arena.{Arena}
@@ -15,16 +17,13 @@ use Rattle.units.proofs.Facts.{arena-facts}
 use Rattle.units.proofs.Tests.{by, clash, and-left, and-right}
 use Rattle.units.proofs.Ways.{said-true, said-false}
 use Rattle.units.proofs.Cases.{sound-true, sound-false}
-use Rattle.units.specs.Rules.{soundnessOf, soundNumber}
 use Rattle.block_words.specs.Words.{capacity, pairs, clear, soundTable}
-use Rattle.block_words.specs.Tallies.{Ready, behind, startOf, judged, Standing}
-use Rattle.block_words.specs.Surveys.{entryOf, SoughtBy, tidy, Stood, verdictBy, verdictNumber, surveyOf}
+use Rattle.block_words.specs.Tallies.{Ready, soundPairs}
+use Rattle.block_words.specs.Surveys.{entryOf, Rising, tidy, verdictNumber, surveyOf}
 use Rattle.block_words.specs.declared.Entry.{Entry}
 use Rattle.block_words.specs.declared.Verdict.{Verdict}
-use Rattle.block_words.specs.declared.seeks.Sought.{Sought}
-use Rattle.block_words.specs.declared.tally.Tally.{Tally}
-use Rattle.block_words.proofs.Ascending.{judged-whole}
-use Rattle.block_words.proofs.Sound.{sound-facts, sound-pairs}
+use Rattle.block_words.proofs.Canonical.{canonical-apart}
+use Rattle.block_words.proofs.Tables.{sound-facts, sound-pairs}
 
 -- room, and zeros behind
 module _ (ws : List ℕ) (n : ℕ) where
@@ -40,29 +39,11 @@ module _ (ws : List ℕ) (n : ℕ) where
 
 pub ruleset tidies = (tidy-few, tidy-dirty, tidy-zeros)
 
-pub survey-fits : (ws : List ℕ) (n : ℕ) (z : Soundness) → z ≡ soundnessOf (tidy ws n) → z ≡ Soundness.Sound → n ≤ length ws / 2
-survey-fits ws n z ez f =
+pub tidy-fits : (ws : List ℕ) (n : ℕ) (z : Soundness) → z ≡ soundnessOf (tidy ws n) → z ≡ Soundness.Sound → n ≤ length ws / 2
+tidy-fits ws n z ez f =
     leb-true n (capacity ws) (and-left (leb n (capacity ws)) (clear (drop (2 * n) ws)) (sound-true (tidy ws n) z ez f))
 
--- what is found from what was sought
-module _ (arena : Arena) (ws : List ℕ) (n : ℕ) (bytes : Size) (q : Sought) where
-  pub verdict-broken : q ≡ Sought.Broken → Verdict.Damaged ≡ verdictBy arena ws n bytes q
-  verdict-broken e = rw e
-
-  module _ (e : Entry) (t : Tally) (eq : q ≡ Sought.At e t) where
-    pub verdict-standing : Stood ws n q → Standing ws n t
-    verdict-standing s = subst (Stood ws n) eq s
-
-    module _ (r : Soundness) (er : r ≡ soundnessOf (judged arena bytes t (behind ws n (t .next)))) where
-      pub verdict-sound : r ≡ Soundness.Sound → Verdict.Sound e ≡ verdictBy arena ws n bytes q
-      verdict-sound f = rw (eq, sound-true (judged arena bytes t (behind ws n (t .next))) r er f)
-
-      pub verdict-damaged : r ≡ Soundness.Damaged → Verdict.Damaged ≡ verdictBy arena ws n bytes q
-      verdict-damaged f = rw (eq, sound-false (judged arena bytes t (behind ws n (t .next))) r er f)
-
-pub ruleset verdict-ways = (verdict-broken, verdict-standing, verdict-sound, verdict-damaged)
-
--- what a scan finds has the number of the table's soundness
+-- what is found has the number of the table's soundness
 pub verdict-number : (arena : Arena) (ws : List ℕ) (n : ℕ) (bytes : Size) (aim : Aim) →
     verdictNumber (surveyOf arena ws n bytes aim)
     ≡ soundNumber (soundnessOf (soundTable (arena .base .0) (arena .limit .0) (arena .align .0) ws n (bytes .0)))
@@ -70,54 +51,53 @@ unfolding surveyOf
 verdict-number arena ws n bytes aim =
     by (soundTable (arena .base .0) (arena .limit .0) (arena .align .0) ws n (bytes .0)) (λ e. rw e (omega arith)) (λ e. rw e (omega arith))
 
--- the whole
-module _ (arena : Arena) (ws : List ℕ) (n : ℕ) (bytes : Size) (aim : Aim) (z : Soundness) (ez : z ≡ soundnessOf (tidy ws n)) where
+module _ (arena : Arena) (ws : List ℕ) (n : ℕ) (bytes : Size) where
   abbrev isSound : Bool
   isSound = soundTable (arena .base .0) (arena .limit .0) (arena .align .0) ws n (bytes .0)
 
-  damaged : isSound ≡ false → Verdict.Damaged ≡ surveyOf arena ws n bytes aim
-  unfolding surveyOf
-  damaged e = rw e
+  -- the zeros, then the pairs
+  module _ (z : Soundness) (ez : z ≡ soundnessOf (tidy ws n)) where
+    pub sound-untidy : z ≡ Soundness.Damaged → Soundness.Damaged ≡ soundnessOf isSound
+    sound-untidy f =
+        ap soundnessOf (sym (by isSound
+        (λ e. let s = sound-facts (arena .base .0) (arena .limit .0) (arena .align .0) ws n (bytes .0) e in
+        let t : tidy ws n ≡ true = rw (le-leb n (capacity ws) (s .fits), s .clean) in
+        clash t (sound-false (tidy ws n) z ez f))
+        (λ e. e)))
 
-  pub survey-untidy : z ≡ Soundness.Damaged → Verdict.Damaged ≡ surveyOf arena ws n bytes aim
-  survey-untidy f =
-      damaged (by isSound
-      (λ e. let s = sound-facts (arena .base .0) (arena .limit .0) (arena .align .0) ws n (bytes .0) e in
-      let t : tidy ws n ≡ true = rw (le-leb n (capacity ws) (s .fits), s .clean) in
-      clash t (sound-false (tidy ws n) z ez f))
-      (λ e. e))
+    pub sound-judged : z ≡ Soundness.Sound → (r : Soundness) → r ≡ soundnessOf (soundPairs arena ws n bytes) → r ≡ soundnessOf isSound
+    sound-judged f r e =
+        e
+        ∙ ap soundnessOf
+        (sym (sound-pairs (arena .base .0) (arena .limit .0) (arena .align .0) ws n (bytes .0) (tidy-fits ws n z ez f)
+        (and-right (leb n (capacity ws)) (clear (drop (2 * n) ws)) (sound-true (tidy ws n) z ez f))))
 
-  module _ (f : z ≡ Soundness.Sound) where
-    is-tidy : tidy ws n ≡ true
-    is-tidy = sound-true (tidy ws n) z ez f
+  -- the pairs of a sound table ascend
+  pub sound-rising : Ready arena → isSound ≡ true → Rising ws n
+  sound-rising ready e =
+      let g = arena-facts (arena .base .0) (arena .limit .0) (arena .align .0) ready in
+      let s = sound-facts (arena .base .0) (arena .limit .0) (arena .align .0) ws n (bytes .0) e in
+      record {
+        low = arena .base .0;
+        high = arena .limit .0;
+        fits = s .fits;
+        above = g .above;
+        apart = canonical-apart (arena .base .0) (arena .limit .0) (arena .align .0) (pairs ws n) (s .good) .0;
+      }
 
-    module _ (ready : Ready arena) where
-      -- the pairs decide
-      decided : isSound ≡ judged arena bytes (startOf arena) (pairs ws n)
-      decided =
-          let g = arena-facts (arena .base .0) (arena .limit .0) (arena .align .0) ready in
-          sound-pairs (arena .base .0) (arena .limit .0) (arena .align .0) ws n (bytes .0) (survey-fits ws n z ez f)
-          (and-right (leb n (capacity ws)) (clear (drop (2 * n) ws)) is-tidy)
-          ∙ sym (judged-whole arena bytes g (pairs ws n))
+  module _ (r : Soundness) (er : r ≡ soundnessOf isSound) where
+    pub survey-damaged : (aim : Aim) → r ≡ Soundness.Damaged → Verdict.Damaged ≡ surveyOf arena ws n bytes aim
+    unfolding surveyOf
+    survey-damaged aim f = rw (sound-false isSound r er f)
 
-      sound-of : (e : Entry) → (isSound ≡ true → e ≡ entryOf aim (pairs ws n)) → (r : Bool) → isSound ≡ r →
-          cond r (Verdict.Sound e) Verdict.Damaged ≡ surveyOf arena ws n bytes aim
+    module _ (f : r ≡ Soundness.Sound) where
+      pub survey-rising : Ready arena → Rising ws n
+      survey-rising ready = sound-rising ready (sound-true isSound r er f)
+
+      pub survey-kept : (aim : Aim) (e : Entry) → e ≡ entryOf aim (pairs ws n) → Verdict.Sound e ≡ surveyOf arena ws n bytes aim
       unfolding surveyOf
-      sound-of e f true h = rw h (ap Verdict.Sound (f h))
-      sound-of e f false h = rw h
+      survey-kept aim e k = rw (sound-true isSound r er f) (ap Verdict.Sound k)
 
-      by-sought : (q : Sought) → SoughtBy arena ws n (entryOf aim) q → verdictBy arena ws n bytes q ≡ surveyOf arena ws n bytes aim
-      by-sought Sought.Broken s = damaged (decided ∙ s bytes)
-      by-sought (Sought.At e t) s =
-          sound-of e
-          (λ h. s .is (sound-facts (arena .base .0) (arena .limit .0) (arena .align .0) ws n (bytes .0) h .good))
-          (judged arena bytes t (behind ws n (t .next))) (decided ∙ sym (s .whole bytes))
+pub ruleset sounds = (sound-untidy, sound-judged, tidy-fits)
 
-      pub survey-found : (q : Sought) → SoughtBy arena ws n (entryOf aim) q → (v : Verdict) → v ≡ verdictBy arena ws n bytes q → v ≡ surveyOf arena ws n bytes aim
-      survey-found q s v e = e ∙ by-sought q s
-
-pub survey-stood : (arena : Arena) (ws : List ℕ) (n : ℕ) (aim : Aim) (q : Sought) → SoughtBy arena ws n (entryOf aim) q → Stood ws n q
-survey-stood arena ws n aim Sought.Broken s = tt
-survey-stood arena ws n aim (Sought.At e t) s = s .standing
-
-pub ruleset surveys = (survey-untidy, survey-fits, survey-stood, survey-found)
+pub ruleset surveys = (survey-damaged, survey-rising, survey-kept)

@@ -1,94 +1,122 @@
--- The scan that weighs each range against what it has kept: what holds at each turn of the loop of `weigh`, and its ways out. Assumes nothing.
-use Prim.Native.Nat.{ℕ, _+_, _/_, _≤_, _<_}
-use mathlib.Core.Bool.{Bool, true, false, cond}
-use mathlib.Core.List.{List, _∷_}
-use mathlib.Core.Path.{_≡_, refl, sym, _∙_, ap, ap₂, subst}
+-- The first of the longest ranges: what holds at each turn of the loop of `largest`, and its ways out. Assumes nothing.
+use Prim.Native.Nat.{ℕ, _+_, _-_, _*_, _≤_, _<_}
+use mathlib.Core.Bool.{Bool, true, false, not, cond, and-false}
+use mathlib.Core.List.{List}
+use mathlib.Core.Path.{_≡_, sym, _∙_, ap, ap₂}
 use native.Mathlib.Omega.{arith}
-use lib.ListN.{length}
-use Rattle.units.specs.Aims.{none-range, Sized, takes}
+use lib.Dec.{eqb, ltb}
+use lib.ListN.{getD}
+use borrow.Author.Tests.{ne-eqb, eqb-true, lt-ltb, le-ltb, ltb-true, ltb-false, not-true}
+use Rattle.units.specs.Aims.{none-range, length-of, isNone, takes}
 use Rattle.units.specs.declared.Range.{Range}
+use Rattle.units.specs.declared.Size.{Size}
+use Rattle.units.specs.declared.Which.{Which}
 use Rattle.units.specs.declared.aims.Aim.{Aim}
-use Rattle.units.specs.declared.rules.Arena.{Arena}
+use Rattle.units.proofs.Tests.{by, tests, and-left}
 use Rattle.model.specs.Marks as marks
 use Rattle.block_words.specs.Words.{pairs}
-use Rattle.block_words.specs.Tallies.{pairAt, behind, startOf, stepOf}
-use Rattle.block_words.specs.Surveys.{entry, entered, entryOf, SoughtBy}
+use Rattle.block_words.specs.Tallies.{pairAt, behind}
+use Rattle.block_words.specs.Surveys.{entry, entryAt, entered, entryOf, Rising}
 use Rattle.block_words.specs.declared.Entry.{Entry}
-use Rattle.block_words.specs.declared.seeks.Sought.{Sought}
-use Rattle.block_words.specs.declared.tally.Step.{Step}
-use Rattle.block_words.specs.declared.tally.Tally.{Tally}
-use Rattle.block_words.proofs.Pairs.{length-pairs, pairs-end}
-use Rattle.block_words.proofs.Judging.{behind-here, pair-order, next-is, Along, along-start, along-next}
-use Rattle.block_words.proofs.Seeking.{all-behind, standing-start, whole-start, broken-start}
+use Rattle.block_words.proofs.Pairs.{length-pairs, pairs-at, pairs-end, all-behind}
+use Rattle.block_words.proofs.Seeking.{rising-inside, rising-order, pair-order, pair-above}
+use Rattle.block_words.proofs.Staying.{at-inside, at-end}
 
--- what is kept of the ranges from the tally on, is kept of all
-pub record Weighing (ws : List ℕ) (n : ℕ) (aim : Aim) (d : Entry) (s : Tally) (e : Entry) (t : Tally) : Type 0 where
-  pub along : Along ws n s t
-  pub order : e .here .base .0 ≤ e .here .limit .0
-  pub left : entered aim e (t .next) (behind ws n (t .next)) ≡ entered aim d (s .next) (behind ws n (s .next))
+-- one byte less, or 0
+module _ (size : Size) (b : Bool) (eb : b ≡ eqb (size .0) 0) where
+  pub less-zero : b ≡ true → size .0 ≡ size .0 - 1
+  less-zero f = let z = eqb-true (size .0) 0 (sym eb ∙ f) in omega arith
 
-module _ (a : Arena) (ws : List ℕ) (n : ℕ) (k : n ≤ length ws / 2) (aim : Aim) (q : Range) (eq : q ≡ none-range) (s : Tally) (es : s ≡ startOf a) where
-  pub weigh-start : Weighing ws n aim (entry n q) s (entry n q) s
-  weigh-start = record { along = along-start ws n s (rw es (standing-start a ws n k)); order = rw eq (omega arith); left = refl }
+  pub less-room : b ≡ false → (n : Size) → n .0 ≡ 1 → n .0 ≤ size .0
+  less-room f n e = let z : eqb (size .0) 0 ≡ false = sym eb ∙ f in omega tests
 
-  module _ (e : Entry) (t : Tally) (j : Weighing ws n aim (entry n q) s e t) where
-    there : Along ws n (startOf a) t
-    there = subst (λ (x : Tally). Along ws n x t) es (j .along)
+pub less-one : (size n r : Size) → n .0 ≡ 1 → r .0 ≡ size .0 - n .0 → r .0 ≡ size .0 - 1
+less-one size n r en er = er ∙ ap (λ (x : ℕ). size .0 - x) en
 
-    all : entered aim e (t .next) (behind ws n (t .next)) ≡ entryOf aim (pairs ws n)
-    all =
-        j .left
-        ∙ ap (λ (x : Tally). entered aim (entry n q) (x .next) (behind ws n (x .next))) es
-        ∙ ap₂ (λ (x : Entry) (rs : List marks.Range). entered aim x 0 rs) (ap₂ entry (sym (length-pairs ws n k)) eq) (all-behind a ws n)
+pub ruleset lessenings = (less-zero, less-room, less-one)
 
-    pub weigh-inside : t .next < n → t .next < length ws / 2
-    weigh-inside h = omega (arith, j .along .standing .fits)
+abbrev pub aimAt : Size → Aim
+aimAt size = Aim.Find Which.Largest size
 
-    module _ (h : t .next < n) (v : Step) (ev : v ≡ stepOf t ws) where
-      pub weigh-broken : v ≡ Step.Damaged → SoughtBy a ws n (entryOf aim) Sought.Broken
-      weigh-broken e' = broken-start a ws n t there h v ev e'
+-- what is kept of the ranges from number i on is kept of all, and a range is taken exactly if it is longer than `most`; for every
+-- size to find that is one more than `start`
+pub record Weighing (ws : List ℕ) (n : ℕ) (start most : Size) (number i : ℕ) : Type 0 where
+  pub rising : Rising ws n
+  pub upto : i ≤ n
+  pub left : (size : Size) → start .0 ≡ size .0 - 1 →
+      entered (aimAt size) (entryAt ws n number) i (behind ws n i) ≡ entryOf (aimAt size) (pairs ws n)
+  pub weighs : (size : Size) → start .0 ≡ size .0 - 1 → (r : Range) → r .base .0 < r .limit .0 →
+      takes (aimAt size) (entryAt ws n number .here) r ≡ ltb (most .0) (length-of r)
 
-      module _ (u : Tally) (eu : v ≡ Step.Good u) (r : Range) (er : r ≡ pairAt ws (t .next)) where
-        pub weigh-sized : Sized (e .here) r
-        weigh-sized = let o = pair-order ws n t (j .along .standing) h v ev u eu in rw er (record { kept-order = j .order; here-order = omega arith })
+module _ (ws : List ℕ) (n : ℕ) (start : Size) where
+  -- before one is kept
+  none-weighs : (size : Size) → start .0 ≡ size .0 - 1 → (r : Range) → r .base .0 < r .limit .0 →
+      takes (aimAt size) none-range r ≡ ltb (start .0) (length-of r)
+  none-weighs size e r o =
+      by (ltb (length-of r) (size .0))
+      (λ t. let p = ltb-true (length-of r) (size .0) t in rw (t, le-ltb (start .0) (length-of r) (omega arith)))
+      (λ t. let p = ltb-false (length-of r) (size .0) t in rw (t, lt-ltb (start .0) (length-of r) (omega arith)))
 
-        module _ (b : Bool) (eb : b ≡ takes aim (e .here) r) where
-          tested : takes aim (e .here) (pairAt ws (t .next)) ≡ b
-          tested = sym (eb ∙ ap (takes aim (e .here)) er)
+  pub weigh-start : Rising ws n → Weighing ws n start start n 0
+  weigh-start s =
+      let z = at-end ws n n (omega arith) in
+      let l = length-pairs ws n (s .fits) in
+      record {
+        rising = s;
+        upto = omega arith;
+        left =
+            λ size e. ap₂ (λ (x : Entry) (rs : List marks.Range). entered (aimAt size) x 0 rs) (z ∙ ap (λ (x : ℕ). entry x none-range) (sym l)) (all-behind ws n);
+        weighs = λ size e r o. ap (λ (x : Entry). takes (aimAt size) (x .here) r) z ∙ none-weighs size e r o;
+      }
 
-          left-here : entered aim e (t .next) (marks.plain (pairAt ws (t .next)) ∷ behind ws n (t .next + 1)) ≡ entered aim e (t .next) (behind ws n (t .next))
-          left-here = sym (ap (entered aim e (t .next)) (behind-here ws n t (j .along .standing) h v ev))
+  module _ (most : Size) (number i : ℕ) (j : Weighing ws n start most number i) where
+    pub weigh-end : n ≤ i → (size : Size) → start .0 ≡ size .0 - 1 → (e : Entry) → e ≡ entryAt ws n number → e ≡ entryOf (aimAt size) (pairs ws n)
+    weigh-end h size es e ee = ee ∙ sym (ap (entered (aimAt size) (entryAt ws n number) i) (pairs-end ws n i h)) ∙ j .left size es
+
+    module _ (h : i < n) (r : Range) (er : r ≡ pairAt ws i) where
+      pub weigh-order : r .base .0 ≤ r .limit .0
+      weigh-order = rising-order ws n (j .rising) i h r er
+
+      module _ (z : Size) (ez : z .0 ≡ length-of r) (b : Bool) (eb : b ≡ ltb (most .0) (z .0)) where
+        long : z .0 ≡ length-of (pairAt ws i)
+        long = ez ∙ ap length-of er
+
+        module _ (size : Size) (es : start .0 ≡ size .0 - 1) where
+          tested : takes (aimAt size) (entryAt ws n number .here) (pairAt ws i) ≡ b
+          tested = j .weighs size es (pairAt ws i) (pair-order ws n (j .rising) i h) ∙ sym (eb ∙ ap (ltb (most .0)) long)
 
           kept-by : (c : Bool) → b ≡ c →
-              entered aim (cond c (entry (t .next) (pairAt ws (t .next))) e) (t .next + 1) (behind ws n (t .next + 1))
-              ≡ entered aim e (t .next) (behind ws n (t .next))
-          kept-by c fb =
-              ap (λ (x : Bool). entered aim (cond x (entry (t .next) (pairAt ws (t .next))) e) (t .next + 1) (behind ws n (t .next + 1))) (sym (tested ∙ fb))
-              ∙ left-here
+              entered (aimAt size) (cond c (entry i (pairAt ws i)) (entryAt ws n number)) (i + 1) (behind ws n (i + 1)) ≡ entryOf (aimAt size) (pairs ws n)
+          kept-by c f =
+              ap (λ (x : Bool). entered (aimAt size) (cond x (entry i (pairAt ws i)) (entryAt ws n number)) (i + 1) (behind ws n (i + 1))) (sym (tested ∙ f))
+              ∙ sym (ap (entered (aimAt size) (entryAt ws n number) i) (pairs-at ws n i h (j .rising .fits))) ∙ j .left size es
 
-          pub weigh-taken : b ≡ true → Weighing ws n aim (entry n q) s (entry (t .next) r) u
-          weigh-taken fb =
-              let o = pair-order ws n t (j .along .standing) h v ev u eu in
-              let w : entered aim (entry (t .next) (pairAt ws (t .next))) (t .next + 1) (behind ws n (t .next + 1))
-              ≡ entered aim e (t .next) (behind ws n (t .next)) = kept-by true fb in
-              record {
-                along = along-next ws n s t (j .along) h v ev u eu;
-                order = rw er (omega arith);
-                left = rw (next-is ws n t (j .along .standing) h v ev u eu, er) (w ∙ j .left);
-              }
+          -- it is long enough, and then only a longer one is taken
+          enough : b ≡ true → size .0 ≤ length-of (pairAt ws i)
+          enough f =
+              ltb-false (length-of (pairAt ws i)) (size .0)
+              (not-true (ltb (length-of (pairAt ws i)) (size .0)) (and-left (not (ltb (length-of (pairAt ws i)) (size .0))) _ (tested ∙ f)))
 
-          pub weigh-left : b ≡ false → Weighing ws n aim (entry n q) s e u
-          weigh-left fb =
-              let w : entered aim e (t .next + 1) (behind ws n (t .next + 1)) ≡ entered aim e (t .next) (behind ws n (t .next)) = kept-by false fb in
-              record {
-                along = along-next ws n s t (j .along) h v ev u eu;
-                order = j .order;
-                left = rw (next-is ws n t (j .along .standing) h v ev u eu) (w ∙ j .left);
-              }
+          longer : b ≡ true → (q : Range) → takes (aimAt size) (pairAt ws i) q ≡ ltb (z .0) (length-of q)
+          longer f q =
+              let e = enough f in
+              let u : isNone (pairAt ws i) ≡ false = ne-eqb (getD ws (2 * i) 0) 0 (λ x. let p = pair-above ws n (j .rising) i h in omega arith) in
+              by (ltb (length-of (pairAt ws i)) (length-of q))
+              (λ t. let p = ltb-true (length-of (pairAt ws i)) (length-of q) t in
+              rw (u, long, t, le-ltb (length-of q) (size .0) (omega arith)))
+              (λ t. rw (u, long, t, and-false (not (ltb (length-of q) (size .0)))))
 
-    pub weigh-end : n ≤ t .next → SoughtBy a ws n (entryOf aim) (Sought.At e t)
-    weigh-end h =
-        let w = sym (ap (entered aim e (t .next)) (pairs-end ws n (t .next) h)) ∙ all in
-        record { standing = j .along .standing; whole = whole-start a ws n t there; is = λ c. w }
+        pub weigh-left : b ≡ false → Weighing ws n start most number (i + 1)
+        weigh-left f = record { rising = j .rising; upto = omega arith; left = λ size e. kept-by size e false f; weighs = j .weighs }
 
-pub ruleset weighings = (weigh-start, weigh-broken, weigh-sized, weigh-taken, weigh-left, weigh-end)
+        pub weigh-taken : b ≡ true → Weighing ws n start z i (i + 1)
+        weigh-taken f =
+            let a = at-inside ws n i h in
+            record {
+              rising = j .rising;
+              upto = omega arith;
+              left = λ size e. rw a (kept-by size e true f);
+              weighs = λ size e q o. ap (λ (x : Entry). takes (aimAt size) (x .here) q) a ∙ longer size e f q;
+            }
+
+pub ruleset weighings = (rising-inside, weigh-start, weigh-end, weigh-order, weigh-taken, weigh-left)

@@ -1,120 +1,160 @@
-// The scan up to the entry that an aim keeps.
+// The place of an address in a good table, and the entry that an aim keeps of it.
 use crate::Entry;
-use crate::tally::Step;
-use crate::tally::Tally;
 use units::Addr;
 use units::Aim;
-use units::Arena;
-use units::Goal;
 use units::Range;
 use units::Size;
 use units::Which;
 ghost use mathlib.Core.Path.{_≡_};
-ghost use mathlib.Core.Bool.{true};
-ghost use Prim.Native.Nat.{_/_, _≤_};
+ghost use Prim.Native.Nat.{_-_, _/_, _≤_};
 ghost use lib.ListN.{length};
-ghost use Rattle.units.specs.Aims.{keepsFirst};
+ghost use Rattle.units.specs.declared.Which.{Which};
 ghost use Rattle.units.specs.declared.aims.Aim.{Aim};
-ghost use Rattle.block_words.specs.Tallies.{Ready};
-ghost use Rattle.block_words.specs.Surveys.{sought, entryOf, SoughtBy};
+ghost use Rattle.block_words.specs.Words.{pairs};
+ghost use Rattle.block_words.specs.Surveys.{entryAt, entryOf, Ordered, Rising, Spot};
 
-// Damage; or the entry kept, and the tally behind it.
-pub enum Sought {
-    Broken,
-    At(Entry, Tally),
+// The number of the first of n ranges that reaches an address, or n, by halving.
+pub fn spot(words: &[u64], n: usize, x: Addr) -> usize
+    requires { ⌜ Ordered (now words) n ⌝ }
+    ensures { λ r. ⌜ Spot (now (words .entry)) n (x .0) r ⌝ }
+{
+    let mut lo: usize = 0;
+    let mut hi = n;
+    while lo < hi {
+        let mid = (lo + hi) / 2;
+        let pair = crate::pair_at(words, mid);
+        if pair.limit.lt(x) {
+            lo = mid + 1;
+        } else {
+            hi = mid;
+        }
+    }
+    lo
 }
 
-// The scan up to the first range that fits.
-fn seek(arena: Arena, words: &[u64], n: usize, goal: Goal) -> Sought
-    requires { ⌜ Ready arena ⌝ }
+// Range number i of n, or none.
+fn entry_at(words: &[u64], n: usize, i: usize) -> Entry
     requires { ⌜ n ≤ length (now words) / 2 ⌝ }
-    ensures { λ r. ⌜ SoughtBy arena (now (words .entry)) n (sought goal 0) r ⌝ }
+    ensures { λ r. ⌜ r ≡ entryAt (now (words .entry)) n i ⌝ }
 {
-    let mut tally = Tally::start(arena);
-    while tally.next < n {
-        let number = tally.next;
-        let here = crate::pair_at(words, number);
-        let Step::Good(next) = tally.judge(words) else {
-            return Sought::Broken;
-        };
-        if goal.fits(here) {
-            return Sought::At(Entry { number, here }, next);
-        }
-        tally = next;
+    if i < n {
+        let here = crate::pair_at(words, i);
+        return Entry { number: i, here };
     }
     let here = Range::none();
-    Sought::At(Entry { number: n, here }, tally)
+    Entry { number: n, here }
 }
 
-// The scan of an aim that keeps the first range that it takes, up to that range. No limit reaches 2^64 - 1.
-fn first(arena: Arena, words: &[u64], n: usize, aim: Aim) -> Sought
-    requires { ⌜ Ready arena ⌝ }
-    requires { ⌜ n ≤ length (now words) / 2 ⌝ }
-    requires { ⌜ keepsFirst aim ≡ true ⌝ }
-    ensures { λ r. ⌜ SoughtBy arena (now (words .entry)) n (entryOf aim) r ⌝ }
+// The first range that reaches an address.
+fn reached(words: &[u64], n: usize, x: Addr) -> Entry
+    requires { ⌜ Rising (now words) n ⌝ }
+    ensures { λ r. ⌜ r ≡ entryOf (Aim.Reach x) (pairs (now (words .entry)) n) ⌝ }
 {
-    let reach = Addr::new(0);
-    let from = Addr::new(0);
-    let size = Size::new(0);
-    match aim {
-        Aim::Nothing => {
-            let reach = Addr::new(18446744073709551615);
-            seek(arena, words, n, Goal { reach, from, size })
-        }
-        Aim::Reach(reach) => seek(arena, words, n, Goal { reach, from, size }),
-        Aim::From(from) => seek(arena, words, n, Goal { reach, from, size }),
-        Aim::Find(_, size) => seek(arena, words, n, Goal { reach, from, size }),
+    let i = spot(words, n, x);
+    entry_at(words, n, i)
+}
+
+// The first range that begins at or above an address: the first that reaches it, or the one behind that.
+fn above(words: &[u64], n: usize, x: Addr) -> Entry
+    requires { ⌜ Rising (now words) n ⌝ }
+    ensures { λ r. ⌜ r ≡ entryOf (Aim.From x) (pairs (now (words .entry)) n) ⌝ }
+{
+    let i = spot(words, n, x);
+    let first = entry_at(words, n, i);
+    if first.here.base.lt(x) {
+        return entry_at(words, n, i + 1);
     }
+    first
 }
 
-// The scan of an aim that weighs each range against what it has kept.
-fn weigh(arena: Arena, words: &[u64], n: usize, aim: Aim) -> Sought
-    requires { ⌜ Ready arena ⌝ }
-    requires { ⌜ n ≤ length (now words) / 2 ⌝ }
-    ensures { λ r. ⌜ SoughtBy arena (now (words .entry)) n (entryOf aim) r ⌝ }
+// The first range that is long enough.
+fn first(words: &[u64], n: usize, size: Size) -> Entry
+    requires { ⌜ Rising (now words) n ⌝ }
+    ensures { λ r. ⌜ r ≡ entryOf (Aim.Find Which.First size) (pairs (now (words .entry)) n) ⌝ }
 {
-    let none = Range::none();
-    let mut kept = Entry {
-        number: n,
-        here: none,
-    };
-    let mut tally = Tally::start(arena);
-    while tally.next < n {
-        let number = tally.next;
+    let mut i: usize = 0;
+    while i < n {
+        let number = i;
+        i += 1;
         let here = crate::pair_at(words, number);
-        let Step::Good(next) = tally.judge(words) else {
-            return Sought::Broken;
-        };
-        if aim.takes(kept.here, here) {
-            kept = Entry { number, here };
+        if size.le(here.size()) {
+            return Entry { number, here };
         }
-        tally = next;
     }
-    Sought::At(kept, tally)
+    entry_at(words, n, n)
 }
 
-// The scan up to the entry that the aim keeps.
-pub(crate) fn aimed(arena: Arena, words: &[u64], n: usize, aim: Aim) -> Sought
-    requires { ⌜ Ready arena ⌝ }
-    requires { ⌜ n ≤ length (now words) / 2 ⌝ }
-    ensures { λ r. ⌜ SoughtBy arena (now (words .entry)) n (entryOf aim) r ⌝ }
+// The last range that is long enough: from the end down.
+fn last(words: &[u64], n: usize, size: Size) -> Entry
+    requires { ⌜ Rising (now words) n ⌝ }
+    ensures { λ r. ⌜ r ≡ entryOf (Aim.Find Which.Last size) (pairs (now (words .entry)) n) ⌝ }
 {
-    if aim.stays() {
-        return first(arena, words, n, aim);
+    let mut i = n;
+    while 0 < i {
+        i -= 1;
+        let range = crate::pair_at(words, i);
+        if size.le(range.size()) {
+            return Entry {
+                number: i,
+                here: range,
+            };
+        }
     }
-    weigh(arena, words, n, aim)
+    entry_at(words, n, n)
 }
 
-// The scan up to the range that a find chooses.
-pub(crate) fn found(arena: Arena, words: &[u64], n: usize, which: Which, size: Size) -> Sought
-    requires { ⌜ Ready arena ⌝ }
-    requires { ⌜ n ≤ length (now words) / 2 ⌝ }
-    ensures { λ r. ⌜ SoughtBy arena (now (words .entry)) n (entryOf (Aim.Find which size)) r ⌝ }
+// The size that is one byte less, or 0.
+fn less(size: Size) -> Size
+    ensures { λ r. ⌜ r .0 ≡ size .0 - 1 ⌝ }
 {
-    if let Which::First = which {
-        let reach = Addr::new(0);
-        let from = Addr::new(0);
-        return seek(arena, words, n, Goal { reach, from, size });
+    if size.is_zero() {
+        return size;
     }
-    weigh(arena, words, n, Aim::Find(which, size))
+    size.minus(Size::new(1))
+}
+
+// The first of the longest ranges, if it is long enough: the number of the longest so far is kept, and the size to exceed.
+fn largest(words: &[u64], n: usize, size: Size) -> Entry
+    requires { ⌜ Rising (now words) n ⌝ }
+    ensures { λ r. ⌜ r ≡ entryOf (Aim.Find Which.Largest size) (pairs (now (words .entry)) n) ⌝ }
+{
+    let mut most = less(size);
+    let mut number = n;
+    let mut i: usize = 0;
+    while i < n {
+        let at = i;
+        i += 1;
+        let here = crate::pair_at(words, at);
+        let long = here.size();
+        if most.lt(long) {
+            most = long;
+            number = at;
+        }
+    }
+    entry_at(words, n, number)
+}
+
+// The range that a find chooses.
+pub(crate) fn found(words: &[u64], n: usize, which: Which, size: Size) -> Entry
+    requires { ⌜ Rising (now words) n ⌝ }
+    ensures { λ r. ⌜ r ≡ entryOf (Aim.Find which size) (pairs (now (words .entry)) n) ⌝ }
+{
+    match which {
+        Which::First => first(words, n, size),
+        Which::Last => last(words, n, size),
+        Which::Largest => largest(words, n, size),
+    }
+}
+
+// What an aim keeps.
+pub fn entry(words: &[u64], n: usize, aim: Aim) -> Entry
+    requires { ⌜ Rising (now words) n ⌝ }
+    ensures { λ r. ⌜ r ≡ entryOf aim (pairs (now (words .entry)) n) ⌝ }
+{
+    match aim {
+        Aim::Nothing => entry_at(words, n, n),
+        Aim::Reach(x) => reached(words, n, x),
+        Aim::From(x) => above(words, n, x),
+        Aim::Find(which, size) => found(words, n, which, size),
+    }
 }

@@ -1,11 +1,11 @@
--- `survey` meets its contract: the zeros behind the pairs, then the pairs. Assumes nothing.
+-- `survey` meets its contract: the table is judged, then what is kept of it is read. Assumes nothing.
 use Rattle.block_words.proofs.Surveying.{surveys}
 use borrow.Author.Needs.{needs}
 use Rattle.block_words.proofs.survey.Statement.{statement}
 use Rattle.block_words.proofs.survey.Tie as tie
 
-tidy-requires : tie.Need-tidy-requires
-tidy-requires c κs = search needs
+sound-requires : tie.Need-sound-requires
+sound-requires c κs = search needs
 
 enum-told : tie.Need-enum-told
 enum-told c = search needs
@@ -16,23 +16,12 @@ enum-told-2 c = search needs
 returns : tie.Need-returns
 returns c = search surveys
 
-aimed-requires : tie.Need-aimed-requires
-aimed-requires c κs = search surveys
-
-conclude-requires : tie.Need-conclude-requires
-conclude-requires c κs = search surveys
+entry-requires : tie.Need-entry-requires
+entry-requires c κs = search surveys
 
 returns-2 : tie.Need-returns-2
 returns-2 c = search surveys
 
 pub survey-spec : {M : Type 1} → statement M
 survey-spec =
-    tie.close
-    (tie.spec
-    tidy-requires
-    enum-told
-    enum-told-2
-    returns
-    aimed-requires
-    conclude-requires
-    returns-2)
+    tie.close (tie.spec sound-requires enum-told enum-told-2 returns entry-requires returns-2)

@@ -16,12 +16,12 @@ enum-told c = search needs
 returns : tie.Need-returns
 returns c = search set-up-ways
 
+lent-requires : tie.Need-lent-requires
+lent-requires c κs = search needs
+
 returns-2 : tie.Need-returns-2
 returns-2 c = search set-up-ways
 
-returns-3 : tie.Need-returns-3
-returns-3 c = search set-up-ways
-
 pub set-up-spec : {M : Type 1} → statement M
 set-up-spec =
-    tie.close (tie.spec arena-requires check-requires enum-told returns returns-2 returns-3)
+    tie.close (tie.spec arena-requires check-requires enum-told returns lent-requires returns-2)

@@ -1,74 +1,60 @@
--- `first` meets its contract: each aim has its goal. Assumes nothing.
-use Rattle.block_words.proofs.Staying.{first-nothing, first-reach, first-from, first-find}
+-- `first` meets its contract: no range before is long enough. Assumes nothing.
+use Prim.Native.Nat.{_-_}
+use native.Mathlib.Omega.{arith}
+use Rattle.block_words.proofs.Finding.{Upwards, ups}
 use borrow.Author.Needs.{needs}
 use Rattle.block_words.proofs.seeks.first.Statement.{statement}
 use Rattle.block_words.proofs.seeks.first.Tie as tie
 
-new-requires : tie.Need-new-requires
-new-requires c κs = search needs
+abbrev Inv-loop : tie.InvT-loop
+Inv-loop words n size i₀ i = Upwards words n size i
 
-new-requires-2 : tie.Need-new-requires-2
-new-requires-2 c κs = search needs
+abbrev μ-loop : tie.MeasureT-loop
+μ-loop words n size i₀ i = n - i
 
-new-requires-3 : tie.Need-new-requires-3
-new-requires-3 c κs = search needs
+loop-holds : tie.Need-loop-holds Inv-loop μ-loop
+loop-holds c = search ups
 
-enum-told : tie.Need-enum-told
-enum-told c = search needs
+add-i : tie.Need-add-i Inv-loop μ-loop
+add-i c = omega arith
 
-new-requires-4 : tie.Need-new-requires-4
-new-requires-4 c κs = search needs
+pair-at-requires : tie.Need-pair-at-requires Inv-loop μ-loop
+pair-at-requires c κs = search ups
 
-seek-requires : tie.Need-seek-requires
-seek-requires c κs = search needs
+size-requires : tie.Need-size-requires Inv-loop μ-loop
+size-requires c κs = search ups
 
-enum-known-aim : tie.Need-enum-known-aim
-enum-known-aim c = search needs
+le-requires : tie.Need-le-requires Inv-loop μ-loop
+le-requires c κs = search needs
 
-seek-requires-2 : tie.Need-seek-requires-2
-seek-requires-2 c κs = search needs
+returns : tie.Need-returns Inv-loop μ-loop
+returns c = search ups
 
-enum-known-aim-2 : tie.Need-enum-known-aim-2
-enum-known-aim-2 c = search needs
+loop-less : tie.Need-loop-less Inv-loop μ-loop
+loop-less c = omega arith
 
-seek-requires-3 : tie.Need-seek-requires-3
-seek-requires-3 c κs = search needs
+loop-again : tie.Need-loop-again Inv-loop μ-loop
+loop-again c = search ups
 
-enum-known-aim-3 : tie.Need-enum-known-aim-3
-enum-known-aim-3 c = search needs
+entry-at-requires : tie.Need-entry-at-requires Inv-loop μ-loop
+entry-at-requires c κs = search ups
 
-seek-requires-4 : tie.Need-seek-requires-4
-seek-requires-4 c κs = search needs
-
-returns : tie.Need-returns
-returns c = search first-nothing
-
-returns-2 : tie.Need-returns-2
-returns-2 c = search first-reach
-
-returns-3 : tie.Need-returns-3
-returns-3 c = search first-from
-
-returns-4 : tie.Need-returns-4
-returns-4 c = search first-find
+returns-2 : tie.Need-returns-2 Inv-loop μ-loop
+returns-2 c = search ups
 
 pub first-spec : {M : Type 1} → statement M
 first-spec =
     tie.close
     (tie.spec
-    new-requires
-    new-requires-2
-    new-requires-3
-    enum-told
-    new-requires-4
-    seek-requires
-    enum-known-aim
-    seek-requires-2
-    enum-known-aim-2
-    seek-requires-3
-    enum-known-aim-3
-    seek-requires-4
+    Inv-loop
+    μ-loop
+    loop-holds
+    add-i
+    pair-at-requires
+    size-requires
+    le-requires
     returns
-    returns-2
-    returns-3
-    returns-4)
+    loop-less
+    loop-again
+    entry-at-requires
+    returns-2)
