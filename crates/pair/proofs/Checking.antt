@@ -1,64 +1,85 @@
 -- The checks of a call of a pair: their ways out, and what they say of both lands. Assumes nothing.
 use Prim.Native.Nat.{ℕ}
-use mathlib.Core.Bool.{Bool, true, false, not, cond, _&&_, and-false}
-use mathlib.Core.List.{List, [], _∷_}
-use mathlib.Core.Logic.{⊎-elim}
-use mathlib.Core.Path.{_≡_, ap, _∙_}
+use mathlib.Core.Bool.{Bool, true, false, not, cond, _&&_, and-false, and-true}
+use mathlib.Core.List.{List}
+use mathlib.Core.Path.{_≡_, sym, ap₂, _∙_}
 use native.Mathlib.Omega.{arith}
-use types.Run.{OneOf}
-use denote.Enum.Declared.{tagOf}
-use Rattle.units.specs.Rules.{setUpOf, soundnessOf}
+use lib.ListN.{length}
+use Rattle.units.specs.Rules.{arenaCheck, goodAlign, goodArena, setUpOf, soundnessOf}
 use Rattle.units.specs.Words.{rangeOf}
-use Rattle.units.specs.declared.Range.{Range}
+use Rattle.units.specs.declared.Range as ranges
 use Rattle.units.specs.declared.aims.Aim.{Aim}
 use Rattle.units.specs.declared.rules.Arena as units
 use Rattle.units.specs.declared.rules.SetUp.{SetUp}
 use Rattle.units.specs.declared.rules.Soundness.{Soundness}
 use Rattle.units.proofs.Cases.{set-up-true, set-up-false, sound-true, sound-false}
 use Rattle.units.proofs.Tests.{by, and-left, and-right}
-use Rattle.list_words.specs.Surveys.{walkOf, kept-of}
+use Rattle.model.specs.Marks.{Range}
+use Rattle.list_words.specs.Surveys as list-words
+use Rattle.list_words.specs.Surveys.{kept-of}
+use Rattle.list_words.specs.declared.Chain.{Chain}
 use Rattle.list_words.specs.declared.Spot.{Spot}
+use Rattle.list_words.specs.declared.Verdict.{Verdict}
 use Rattle.list_land.specs.Layout as list
 use Rattle.list_land.specs.Parts as list-parts
-use Rattle.list_land.specs.declared.Look as list-look
-use Rattle.list_land.proofs.Look as list-look-type
-use Rattle.block_words.specs.Surveys.{entryOf}
+use Rattle.list_land.proofs.Sound as list-sound
+use Rattle.block_words.specs.Surveys.{entryOf, Rising}
+use Rattle.block_words.specs.Tallies.{Ready}
+use Rattle.block_words.specs.Words.{pairs, soundTable}
 use Rattle.block_words.specs.declared.Entry.{Entry}
-use Rattle.block_words.specs.Words.{pairs}
+use Rattle.block_words.proofs.Surveying.{sound-rising}
 use Rattle.block_land.specs.Layout as block
-use Rattle.block_land.specs.Parts as block-parts
-use Rattle.block_land.specs.declared.Look as block-look
-use Rattle.block_land.proofs.Look as block-look-type
-use Rattle.transfers.specs.Transfers.{Going}
 use Rattle.flush.specs.Flush.{sameArena}
 use Rattle.flush.specs.Flush as flush-check
 use Rattle.flush.specs.declared.FlushCheck.{FlushCheck}
 use Rattle.flush.proofs.FlushKeeps.{OneArena, one-arena}
-use Rattle.flush.proofs.FlushAnswers.{going}
 use Rattle.pair_model.specs.PairLayouts.{meet}
+use Rattle.pair_words.specs.Besides.{surveyBeside}
 use Rattle.pair.specs.Calls.{refusedBy, foundNone}
 use Rattle.pair.specs.Parts.{setUp, sound, checkOf}
 use Rattle.pair.specs.declared.Pair.{Pair}
 use Rattle.pair.specs.declared.PairCheck.{PairCheck}
 
-pub refused-made : (p : Pair) (n : ℕ) (r : Range) → r ≡ rangeOf 0 0 → record { pair = p; answer = n; range = r } ≡ refusedBy p n
+pub refused-made : (p : Pair) (n : ℕ) (r : ranges.Range) → r ≡ rangeOf 0 0 → record { pair = p; answer = n; range = r } ≡ refusedBy p n
 refused-made p n r e = rw e
 
-pub none-made : (p : Pair) (n : ℕ) (r o : Range) → r ≡ rangeOf 0 0 → o ≡ rangeOf 0 0 → record { pair = p; answer = n; range = r; old = o } ≡ foundNone p n
+pub none-made : (p : Pair) (n : ℕ) (r o : ranges.Range) → r ≡ rangeOf 0 0 → o ≡ rangeOf 0 0 → record { pair = p; answer = n; range = r; old = o } ≡ foundNone p n
 none-made p n r o e f = rw (e, f)
 
-module _ (p : Pair) (ws vs : List ℕ) (r : SetUp) (er : r ≡ setUpOf (list.setUp (p .list) ws)) where
-  pub up-list : r ≡ SetUp.Bad → SetUp.Bad ≡ setUpOf (setUp p ws vs)
-  up-list f = rw (set-up-false (list.setUp (p .list) ws) r er f)
+-- the arenas are one, so the set-up of the list tells that of the block land
+module _ (p : Pair) (ws vs : List ℕ) (q : SetUp) (eq : q ≡ setUpOf (sameArena (p .list) (p .block))) where
+  pub up-differ : q ≡ SetUp.Bad → SetUp.Bad ≡ setUpOf (setUp p ws vs)
+  up-differ f =
+      rw (
+        set-up-false (sameArena (p .list) (p .block)) q eq f,
+        and-false (block.setUp (p .block) vs),
+        and-false (list.setUp (p .list) ws),
+      )
 
-  module _ (f : r ≡ SetUp.Good) (q : SetUp) (eq : q ≡ setUpOf (block.setUp (p .block) vs)) where
-    pub up-block : q ≡ SetUp.Bad → SetUp.Bad ≡ setUpOf (setUp p ws vs)
-    up-block g = rw (set-up-true (list.setUp (p .list) ws) r er f, set-up-false (block.setUp (p .block) vs) q eq g)
+  module _ (f : q ≡ SetUp.Good) (r : SetUp) (er : r ≡ setUpOf (list.setUp (p .list) ws)) where
+    pub up-list : r ≡ SetUp.Bad → SetUp.Bad ≡ setUpOf (setUp p ws vs)
+    up-list g = rw (set-up-false (list.setUp (p .list) ws) r er g)
 
-    pub up-same : q ≡ SetUp.Good → (t : SetUp) → t ≡ setUpOf (sameArena (p .list) (p .block)) → t ≡ setUpOf (setUp p ws vs)
-    up-same g t et = rw (set-up-true (list.setUp (p .list) ws) r er f, set-up-true (block.setUp (p .block) vs) q eq g) et
+    module _ (g : r ≡ SetUp.Good) where
+      is-same : sameArena (p .list) (p .block) ≡ true
+      is-same = set-up-true (sameArena (p .list) (p .block)) q eq f
 
-pub ruleset ups = (up-list, up-block, up-same)
+      list-good : list.setUp (p .list) ws ≡ true
+      list-good = set-up-true (list.setUp (p .list) ws) r er g
+
+      block-lent : block.setUp (p .block) vs ≡ block.lent vs
+      unfolding list.setUp block.setUp
+      block-lent =
+          let o = one-arena (p .list) (p .block) is-same in
+          let c = and-left (goodArena (arenaCheck (list.base (p .list)) (list.limit (p .list)) (list.align (p .list)))) _ list-good in
+          let d : goodArena (arenaCheck (block.base (p .block)) (block.limit (p .block)) (block.align (p .block))) ≡ true =
+          rw (← o .base, ← o .limit, ← o .align) c in
+          rw d
+
+      pub up-lent : (t : SetUp) → t ≡ setUpOf (block.lent vs) → t ≡ setUpOf (setUp p ws vs)
+      up-lent t et = rw (list-good, is-same, block-lent, and-true (block.lent vs)) et
+
+pub ruleset ups = (up-differ, up-list, up-lent)
 
 -- what a good set-up says
 module _ (p : Pair) (ws vs : List ℕ) (g : setUp p ws vs ≡ true) where
@@ -81,80 +102,87 @@ unfolding flush-check.checkOf
 flush-good p ws vs g s t =
     rw (list-up p ws vs g, block-up p ws vs g, and-right (block.setUp (p .block) vs) (sameArena (p .list) (p .block)) (rest-up p ws vs g), s, t)
 
--- the looks and the overlap
+-- the checks one after the other
 module _ (p : Pair) (ws vs : List ℕ) (aim : Aim) (r : SetUp) (er : r ≡ setUpOf (setUp p ws vs)) where
   pub check-up : r ≡ SetUp.Bad → PairCheck.BadSetUp ≡ checkOf p ws vs aim
   unfolding checkOf
   check-up f = rw (set-up-false (setUp p ws vs) r er f)
 
-  module _ (f : r ≡ SetUp.Good) (v : list-look.Look) (ev : v ≡ list-parts.lookOf (p .list) ws aim) where
+  module _ (f : r ≡ SetUp.Good) where
     good : setUp p ws vs ≡ true
     good = set-up-true (setUp p ws vs) r er f
 
-    abbrev spot : Spot
-    spot = kept-of aim (list.walkOf (p .list) ws .met)
+    at : list-sound.Placed (p .list) (length ws)
+    at = list-sound.placed (p .list) ws (list-up p ws vs good)
 
-    abbrev entry : Entry
-    entry = entryOf aim (block.tableOf (p .block) vs)
+    pub check-align : (b : units.Arena) → b ≡ list-parts.arenaIn (p .list) → goodAlign (b .align .0) ≡ true
+    check-align b eb = rw eb (at .arena .align)
 
-    list-saw : v ≡ cond (list.sound (p .list) ws) (list-look.Look.Sound spot) list-look.Look.Damaged
-    unfolding list-parts.lookOf
-    list-saw = rw (list-up p ws vs good) at ev
+    module _ (a : units.Arena) (ea : a ≡ list-parts.arenaIn (p .list)) where
+      pub check-arena : Ready a
+      check-arena = rw ea (at .ready .arena)
 
-    pub check-list : OneOf (0 ∷ 1 ∷ []) (tagOf list-look-type.the-type v) → PairCheck.Damaged ≡ checkOf p ws vs aim
-    unfolding checkOf
-    check-list o =
-        by (list.sound (p .list) ws)
-        (λ t. let d : v ≡ list-look.Look.Sound spot = rw t at list-saw in absurd (⊎-elim (λ x. omega arith) (λ x. omega arith) (rw d at o)))
-        (λ t. rw (good, t))
+      pub check-words : (b : units.Arena) → b ≡ a → list-words.Ready b (length ws)
+      check-words b eb = rw (eb ∙ ea) (at .ready)
 
-    module _ (s : Spot) (fv : v ≡ list-look.Look.Sound s) (w : block-look.Look) (ew : w ≡ block-parts.lookOf (p .block) vs aim) where
-      list-whole : (list.sound (p .list) ws ≡ true) × (s ≡ spot)
-      list-whole =
-          by (list.sound (p .list) ws)
-          (λ t. let d : v ≡ list-look.Look.Sound spot = rw t at list-saw in (t, cc))
-          (λ t. let d : v ≡ list-look.Look.Damaged = rw t at list-saw in let z : _≡_ {A = ℕ} 0 1 = cc in absurd (omega arith))
+      abbrev n : ℕ
+      n = p .block .ranges
 
-      block-saw : w ≡ cond (block.sound (p .block) vs) (block-look.Look.Sound entry) block-look.Look.Damaged
-      unfolding block-parts.lookOf
-      block-saw = rw (block-up p ws vs good) at ew
+      abbrev table : Bool
+      table = soundTable (a .base .0) (a .limit .0) (a .align .0) vs n (p .block .bytes .0)
 
-      pub check-block : OneOf (0 ∷ 1 ∷ []) (tagOf block-look-type.the-type w) → PairCheck.Damaged ≡ checkOf p ws vs aim
-      unfolding checkOf
-      check-block o =
-          by (block.sound (p .block) vs)
-          (λ t. let d : w ≡ block-look.Look.Sound entry = rw t at block-saw in absurd (⊎-elim (λ x. omega arith) (λ x. omega arith) (rw d at o)))
-          (λ t. rw (good, t, and-false (list.sound (p .list) ws)))
+      is-table : table ≡ block.sound (p .block) vs
+      unfolding block.sound
+      is-table = let o = same-up p ws vs good in rw (ea, o .base, o .limit, o .align)
 
-      module _ (e : Entry) (fw : w ≡ block-look.Look.Sound e) (a : units.Arena) (ea : a ≡ list-parts.arenaIn (p .list)) where
-        block-whole : (block.sound (p .block) vs ≡ true) × (e ≡ entry)
-        block-whole =
-            by (block.sound (p .block) vs)
-            (λ t. let d : w ≡ block-look.Look.Sound entry = rw t at block-saw in (t, cc))
-            (λ t. let d : w ≡ block-look.Look.Damaged = rw t at block-saw in let z : _≡_ {A = ℕ} 0 1 = cc in absurd (omega arith))
+      module _ (o : Soundness) (eo : o ≡ soundnessOf table) where
+        pub check-table : o ≡ Soundness.Damaged → PairCheck.Damaged ≡ checkOf p ws vs aim
+        unfolding checkOf
+        check-table g =
+            let t : block.sound (p .block) vs ≡ false = sym is-table ∙ sound-false table o eo g in
+            rw (good, t, and-false (list.sound (p .list) ws))
 
-        pub check-going : Going a ws (p .list .head .0) vs (p .block .ranges)
-        check-going = going (p .list) ws (p .block) vs (flush-good p ws vs good (list-whole .0) (block-whole .0)) a ea
+        module _ (g : o ≡ Soundness.Sound) where
+          table-sound : table ≡ true
+          table-sound = sound-true table o eo g
 
-        same-met : meet (walkOf a ws (p .list .head .0) .met) (block.tableOf (p .block) vs) ≡ meet (list.walkOf (p .list) ws .met) (block.tableOf (p .block) vs)
-        same-met = rw ea
+          pub check-rising : Rising vs n
+          check-rising = sound-rising a vs n (p .block .bytes) check-arena table-sound
 
-        module _ (o : Soundness) (oe : o ≡ soundnessOf (not (meet (walkOf a ws (p .list .head .0) .met) (pairs vs (p .block .ranges))))) where
-          abbrev are-apart : Bool
-          are-apart = not (meet (list.walkOf (p .list) ws .met) (block.tableOf (p .block) vs))
+          module _ (b : units.Arena) (eb : b ≡ a) (h : Chain) (eh : h ≡ list-parts.chainIn (p .list))
+              (v : Verdict) (ev : v ≡ surveyBeside b ws h vs n aim) where
+            abbrev met : List Range
+            met = list.walkOf (p .list) ws .met
 
-          eo : o ≡ soundnessOf are-apart
-          eo = oe ∙ ap (λ (t : Bool). soundnessOf (not t)) same-met
+            abbrev overlap : Bool
+            overlap = meet met (block.tableOf (p .block) vs)
 
-          pub check-overlap : o ≡ Soundness.Damaged → PairCheck.Damaged ≡ checkOf p ws vs aim
-          unfolding checkOf
-          check-overlap h = rw (good, list-whole .0, block-whole .0, sound-false are-apart o eo h)
+            found : v ≡ cond (list.sound (p .list) ws && not overlap) (Verdict.Sound (kept-of aim met)) Verdict.Damaged
+            unfolding surveyBeside list.sound
+            found = ev ∙ ap₂ (λ (x : units.Arena) (y : Chain). surveyBeside x ws y vs n aim) (eb ∙ ea) eh
 
-          pub check-good : o ≡ Soundness.Sound → PairCheck.Good s e ≡ checkOf p ws vs aim
-          unfolding checkOf
-          check-good h =
-              let x = list-whole .1 in
-              let y = block-whole .1 in
-              rw (good, list-whole .0, block-whole .0, sound-true are-apart o eo h) (λ i. PairCheck.Good (x i) (y i))
+            block-sound : block.sound (p .block) vs ≡ true
+            block-sound = sym is-table ∙ table-sound
 
-pub ruleset checks = (check-up, check-list, check-block, check-going, check-overlap, check-good)
+            abbrev both : Bool
+            both = list.sound (p .list) ws && not overlap
+
+            as-sound : sound p ws vs ≡ both
+            as-sound = rw block-sound
+
+            pub check-walk : v ≡ Verdict.Damaged → PairCheck.Damaged ≡ checkOf p ws vs aim
+            unfolding checkOf
+            check-walk d =
+                by both
+                (λ t. let q : v ≡ Verdict.Sound (kept-of aim met) = rw t at found in let z : _≡_ {A = ℕ} 0 1 = cc in absurd (omega arith))
+                (λ t. rw (good, as-sound, t))
+
+            pub check-good : (s : Spot) → v ≡ Verdict.Sound s → (e : Entry) → e ≡ entryOf aim (pairs vs n) → PairCheck.Good s e ≡ checkOf p ws vs aim
+            unfolding checkOf
+            check-good s d e ee =
+                by both
+                (λ t. let q : v ≡ Verdict.Sound (kept-of aim met) = rw t at found in
+                let w : s ≡ kept-of aim met = cc in rw (good, as-sound, t) (ap₂ PairCheck.Good w ee))
+                (λ t. let q : v ≡ Verdict.Damaged = rw t at found in let z : _≡_ {A = ℕ} 0 1 = cc in absurd (omega arith))
+
+pub ruleset checks = (check-up, check-align, check-arena, check-words, check-table, check-rising, check-walk, check-good)

@@ -19,9 +19,9 @@ use Rattle.list_land.specs.Parts.{Sought, reachLimit}
 use Rattle.list_land.specs.declared.ListLand.{ListLand}
 use Rattle.list_land.proofs.LayoutLaws as list-laws
 use Rattle.block_words.specs.Words.{fill}
+use Rattle.block_words.specs.Surveys as places
 use Rattle.block_words.specs.declared.Entry.{Entry}
 use Rattle.block_edits.specs.Edits.{Sorted, cutOf, cutWords}
-use Rattle.block_edits.specs.Places as places
 use Rattle.block_edits.specs.declared.Edited.{Edited}
 use Rattle.block_edits.proofs.Answered.{cut-refused, cut-full, cut-done, cut-words}
 use Rattle.block_land.specs.Layout as block

@@ -11,7 +11,8 @@ use Rattle.units.proofs.Tests.{clash}
 use Rattle.model.proofs.Totals.{total-insert}
 use Rattle.list_words.specs.Laying.{lay}
 use Rattle.list_words.specs.Surveys.{walkOf, kept-of}
-use Rattle.list_words.specs.declared.Spot.{Spot}
+use Rattle.list_words.specs.declared.Spot as list-spot
+use Rattle.block_words.specs.Surveys.{Spot}
 use Rattle.list_land.specs.Layout as list
 use Rattle.list_land.specs.Parts as list-parts
 use Rattle.list_land.specs.declared.ListLand.{ListLand}
@@ -39,12 +40,12 @@ pub flushed-pair : (p : Pair) (ws vs vs' : List ℕ) (h : ListLand) (k : BlockLa
 flushed-pair p ws vs vs' h k m s e = (ap (λ (f : Flushed). record { list = f .list; block = f .block }) (e .0), e .1)
 
 -- INTO THE LIST
-module _ (p : Pair) (ws : List ℕ) (y : units.Range) (s : Spot) (k : Roomless p ws y s) where
+module _ (p : Pair) (ws : List ℕ) (y : units.Range) (s : list-spot.Spot) (k : Roomless p ws y s) where
   module _ (a : Arena) (ea : a ≡ list-parts.arenaIn (p .list)) where
     pub enter-left : Left a ws (p .list .head) (y .base) s
     enter-left = rw ea (k .left)
 
-    pub enter-giving : (t : Spot) → t ≡ kept-of (Aim.Reach (y .base)) (walkOf a ws (p .list .head .0) .met) → Giving (p .list) ws y t
+    pub enter-giving : (t : list-spot.Spot) → t ≡ kept-of (Aim.Reach (y .base)) (walkOf a ws (p .list .head .0) .met) → Giving (p .list) ws y t
     enter-giving t et =
         let u : t ≡ kept-of (Aim.Reach (y .base)) (list.walkOf (p .list) ws .met) = rw ea at et in
         record { sought = record { good = k .good; whole = k .whole; kept = u }; good = k .asked; apart = k .clear }
@@ -54,12 +55,12 @@ module _ (p : Pair) (ws : List ℕ) (y : units.Range) (s : Spot) (k : Roomless p
   enter-listed g ws' e = (ap (λ (x : Given). record { pair = record { list = x .list; block = p .block }; answer = 0; range = x .range }) (e .0), e .1)
 
 -- INTO THE BLOCK LAND
-module _ (p : Pair) (ws vs : List ℕ) (y : units.Range) (s : Spot) (k : Open p ws vs y s) where
+module _ (p : Pair) (ws vs : List ℕ) (y : units.Range) (s : list-spot.Spot) (k : Open p ws vs y s) where
   read : block-parts.Readable (p .block) vs
   read = record { good = k .good; whole = k .whole }
 
-  pub enter-sorted : Sorted vs (p .block .ranges) × (y .base .0 < y .limit .0)
-  enter-sorted = (sorted (p .block) vs read, k .proper)
+  pub enter-sorted : (i : ℕ) → Spot vs (p .block .ranges) (y .base .0) i → Sorted vs (p .block .ranges) × ((y .base .0 < y .limit .0) × Spot vs (p .block .ranges) (y .base .0) i)
+  enter-sorted i t = (sorted (p .block) vs read, (k .proper, t))
 
   abbrev Enters : Changed → List ℕ → List ℕ → Type 0
   Enters w ws' vs' = (w ≡ entered p ws vs y) × (ws' ≡ enteredWords p ws vs y) × (vs' ≡ enteredNodes p vs y)

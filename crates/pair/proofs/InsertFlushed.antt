@@ -19,6 +19,7 @@ use Rattle.list_words.specs.Surveys.{kept-of}
 use Rattle.list_words.specs.Words.{isClean, soundWalk}
 use Rattle.list_words.specs.declared.Spot.{Spot}
 use Rattle.list_words.proofs.Laid.{lay-laid}
+use Rattle.block_words.specs.declared.Entry.{Entry}
 use Rattle.list_land.specs.Layout as list
 use Rattle.list_land.specs.Parts.{reachBase}
 use Rattle.list_land.specs.declared.ListLand.{ListLand}
@@ -34,19 +35,19 @@ use Rattle.flush.specs.declared.FlushCheck.{FlushCheck}
 use Rattle.flush.proofs.FlushKeeps as keeps
 use Rattle.pair_model.specs.Pairs.{insert}
 use Rattle.pair_model.proofs.InsertTurns.{no-overlap}
-use Rattle.pair.specs.Inserts.{flushedPair, entered, enteredWords, enteredNodes, Open, Bare}
+use Rattle.pair.specs.Inserts.{flushedPair, entered, enteredWords, enteredNodes, Open, Bare, Placed}
 use Rattle.pair.specs.declared.Changed.{Changed}
 use Rattle.pair.specs.declared.Pair.{Pair}
 use Rattle.pair.proofs.Asking.{order, list-good}
 use Rattle.pair.proofs.Calling.{flush-checked, accepts}
-use Rattle.pair.proofs.Inserting.{is-insert, Inserts}
+use Rattle.pair.proofs.Inserting.{is-insert, Inserts, table-asks}
 
 -- a sound list ends clean
 sound-clean : (h : ListLand) (ws : List ℕ) → list.sound h ws ≡ true → isClean (list.walkOf h ws .end) ≡ true
 unfolding list.sound soundWalk
 sound-clean h ws s = and-left _ _ s
 
-module _ (p : Pair) (ws vs : List ℕ) (y : units.Range) (s : Spot) (k : Bare p ws vs y s) where
+module _ (p : Pair) (ws vs : List ℕ) (y : units.Range) (s : Spot) (e : Entry) (k : Bare p ws vs y s e) where
   abbrev b : ℕ
   b = y .base .0
 
@@ -69,7 +70,7 @@ module _ (p : Pair) (ws vs : List ℕ) (y : units.Range) (s : Spot) (k : Bare p 
   into = flush a rs qs .into
 
   pub bare-good : flush-check.checkOf (p .list) ws (p .block) vs ≡ FlushCheck.Good
-  bare-good = flush-checked p ws vs (reachBase y) s (k .entry) (k .wanted .checked)
+  bare-good = flush-checked p ws vs (reachBase y) s e (k .wanted .checked)
 
   checked : keeps.Checked (p .list) ws (p .block) vs
   checked = keeps.checked (p .list) ws (p .block) vs bare-good
@@ -101,7 +102,7 @@ module _ (p : Pair) (ws vs : List ℕ) (y : units.Range) (s : Spot) (k : Bare p 
       (overlaps-none b l qs (or-right (overlaps b l rs) (overlaps b l qs) (k .none)) x i j)
 
   proper : y .base .0 < y .limit .0
-  proper = order p ws vs y s (k .entry) (k .wanted)
+  proper = order p ws vs y s e (k .wanted)
 
   list-clear : overlaps (y .base .0) (y .limit .0) left ≡ false
   list-clear = no-overlap b l (a .base) (a .limit) left proper (moved .left-fine .canon .apart) (λ x i j. or-left (marksOf left x) (marksOf into x) (none-free x i j))
@@ -118,7 +119,7 @@ module _ (p : Pair) (ws vs : List ℕ) (y : units.Range) (s : Spot) (k : Bare p 
     in-list = record {
       good = in-list .good;
       whole = in-list .whole;
-      asked = list-good p ws vs y s (k .entry) (k .wanted);
+      asked = list-good p ws vs y s e (k .wanted);
       clear = rw (in-list .same) list-clear;
       left = record {
         listed = record {
@@ -150,7 +151,7 @@ module _ (p : Pair) (ws vs : List ℕ) (y : units.Range) (s : Spot) (k : Bare p 
     into-block t =
         let new = insert-in b l into in
         let d = is-insert p ws vs y
-        ∙ accepts p ws vs (reachBase y) s (k .entry) (k .wanted .checked) (insert b l) (holder b l new) (rng 0 0) left new (rw (k .wanted .good, k .none, block-clear, t)) in
+        ∙ accepts p ws vs (reachBase y) s e (k .wanted .checked) (insert b l) (holder b l new) (rng 0 0) left new (rw (k .wanted .good, k .none, block-clear, t)) in
         let x : w ≡ record { pair = record { list = list.closed (p .list) left; block = block.closed (p .block) new }; answer = 0; range = struct (holder b l new) } =
         rw (in-block .same, length-fill into vs, t) at (f .0) in
         let u : ws₂ ≡ ws = rw (in-block .same, length-fill into vs, t) at (f .1) in
@@ -161,7 +162,7 @@ module _ (p : Pair) (ws vs : List ℕ) (y : units.Range) (s : Spot) (k : Bare p 
     into-list t =
         let new = insert-in b l left in
         let d = is-insert p ws vs y
-        ∙ accepts p ws vs (reachBase y) s (k .entry) (k .wanted .checked) (insert b l) (holder b l new) (rng 0 0) new into (rw (k .wanted .good, k .none, block-clear, t, list-clear)) in
+        ∙ accepts p ws vs (reachBase y) s e (k .wanted .checked) (insert b l) (holder b l new) (rng 0 0) new into (rw (k .wanted .good, k .none, block-clear, t, list-clear)) in
         let x : w ≡ record { pair = record { list = list.closed (p .list) new; block = block.closed (p .block) into }; answer = 0; range = struct (holder b l new) } =
         rw (in-block .same, in-list .same, length-fill into vs, t) at (f .0) in
         let u : ws₂ ≡ lay (list.base (p .list)) new ws = rw (in-block .same, in-list .same, length-fill into vs, t) at (f .1) in
@@ -171,16 +172,17 @@ module _ (p : Pair) (ws vs : List ℕ) (y : units.Range) (s : Spot) (k : Bare p 
     enters : Inserts p ws vs y w ws₂ vs₂
     enters = by (leb (length (insert-in b l into)) (capacity vs)) into-block into-list
 
-  module _ (q : Pair) (vs' : List ℕ) (e : (q ≡ flushedPair p ws vs) × (vs' ≡ flushed (p .list) ws (p .block) vs .nodes)) where
+  module _ (q : Pair) (vs' : List ℕ) (f : (q ≡ flushedPair p ws vs) × (vs' ≡ flushed (p .list) ws (p .block) vs .nodes)) where
     pub bare-open : Open q ws vs' y s
     bare-open =
-        subst (λ (x : Pair). Open x ws vs' y s) (sym (e .0 ∙ rest-is))
-        (subst (λ (x : List ℕ). Open rest ws x y s) (sym (e .1 ∙ nodes-is)) opens)
+        subst (λ (x : Pair). Open x ws vs' y s) (sym (f .0 ∙ rest-is))
+        (subst (λ (x : List ℕ). Open rest ws x y s) (sym (f .1 ∙ nodes-is)) opens)
 
     pub bare-0 : (w : Changed) (ws₂ vs₂ : List ℕ) → (w ≡ entered q ws vs' y) × (ws₂ ≡ enteredWords q ws vs' y) × (vs₂ ≡ enteredNodes q vs' y) → Inserts p ws vs y w ws₂ vs₂
-    bare-0 w ws₂ vs₂ f =
+    bare-0 w ws₂ vs₂ g =
         enters w ws₂ vs₂
-        (subst (λ (x : List ℕ). Enters rest x w ws₂ vs₂) (e .1 ∙ nodes-is)
-        (subst (λ (x : Pair). Enters x vs' w ws₂ vs₂) (e .0 ∙ rest-is) f))
+        (subst (λ (x : List ℕ). Enters rest x w ws₂ vs₂) (f .1 ∙ nodes-is)
+        (subst (λ (x : Pair). Enters x vs' w ws₂ vs₂) (f .0 ∙ rest-is) g))
 
-pub ruleset bares = (bare-good, bare-open, bare-0)
+  pub bare-placed : Placed p ws vs y e
+  bare-placed = record { good = bare-good; place = table-asks p ws vs y s e (k .wanted) .1 .1 }

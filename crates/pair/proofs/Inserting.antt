@@ -14,9 +14,9 @@ use Rattle.list_land.specs.Layout as list
 use Rattle.list_land.specs.Parts as list-parts
 use Rattle.list_land.specs.Parts.{reachBase}
 use Rattle.list_land.proofs.Requests as list-requests
+use Rattle.block_words.specs.Surveys as places
 use Rattle.block_words.specs.declared.Entry.{Entry}
 use Rattle.block_edits.specs.Edits.{Sorted}
-use Rattle.block_edits.specs.Places as places
 use Rattle.block_land.specs.Layout as block
 use Rattle.block_land.proofs.EditAnswers as edits
 use Rattle.pair_model.specs.Pairs.{insert}
@@ -75,7 +75,7 @@ module _ (p : Pair) (ws vs : List ℕ) (y : units.Range) (s : Spot) where
           refuse changed p ws vs 1 (inserted p ws vs y)
           (is-insert p ws vs y ∙ refuses p ws vs (reachBase y) s e (k .checked) (insert b l) 1 refl (rw (k .good, sym et ∙ f))) w ew
 
-      pub not-taken : t ≡ false → Bare p ws vs y s
-      not-taken f = record { entry = e; wanted = k; none = sym et ∙ f }
+      pub not-taken : t ≡ false → Bare p ws vs y s e
+      not-taken f = record { wanted = k; none = sym et ∙ f }
 
 pub ruleset inserts = (taken-list, taken-table)

@@ -14,10 +14,12 @@ use Rattle.list_words.specs.declared.Spot.{Spot}
 use Rattle.list_land.specs.Layout as list
 use Rattle.list_land.specs.Parts as list-parts
 use Rattle.list_land.specs.Parts.{reachBase}
+use Rattle.block_words.specs.Surveys as places
 use Rattle.block_words.specs.Words.{capacity, fill}
 use Rattle.block_words.specs.declared.Entry.{Entry}
 use Rattle.block_land.specs.Layout as block
-use Rattle.flush.specs.Flush.{flushed}
+use Rattle.flush.specs.Flush.{checkOf, flushed}
+use Rattle.flush.specs.declared.FlushCheck.{FlushCheck}
 use Rattle.pair_model.specs.Pairs.{both, any-free}
 use Rattle.pair_words.specs.Lefts.{Left}
 use Rattle.pair.specs.Editing.{listMore, given}
@@ -94,7 +96,11 @@ module _ (p : Pair) (ws vs : List ℕ) (y : units.Range) (s : Spot) where
   Wanted e = Ranged p ws vs (reachBase y) y s e
 
   -- No byte of it is free.
-  pub record Bare : Type 0 where
-    pub entry : Entry
-    pub wanted : Wanted entry
+  pub record Bare (e : Entry) : Type 0 where
+    pub wanted : Wanted e
     pub none : takenIn p ws vs y ≡ false
+
+-- The checks of a flush are good, and an entry of the table is the first range that reaches the base of a request.
+pub record Placed (p : Pair) (ws vs : List ℕ) (y : units.Range) (e : Entry) : Type 0 where
+  pub good : checkOf (p .list) ws (p .block) vs ≡ FlushCheck.Good
+  pub place : places.Spot vs (p .block .ranges) (y .base .0) (e .number)

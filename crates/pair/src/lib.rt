@@ -10,8 +10,11 @@ mod insert;
 
 use block_land::BlockLand;
 use block_words::Entry;
+use block_words::seeks;
 use list_land::ListLand;
 use list_words::Spot;
+use list_words::Verdict;
+use pair_words::walks;
 use units::Aim;
 use units::Range;
 use units::SetUp;
@@ -75,22 +78,21 @@ fn none_found(pair: Pair, answer: u64) -> Found
 }
 
 impl Pair {
-    // Whether the set-up of the list is good, that of the block land, and their arenas are one.
+    // Whether the arenas of both lands are one, its set-up is good, and node space is not too long.
     fn set_up(self, words: &[u64], nodes: &[u64]) -> SetUp
         ensures { λ r. ⌜ r ≡ setUpOf (setUp self (now (words .entry)) (now (nodes .entry))) ⌝ }
     {
         let list = self.list;
-        let block = self.block;
+        let SetUp::Good = flush::same_arena(list, self.block) else {
+            return SetUp::Bad;
+        };
         let SetUp::Good = list.set_up(words) else {
             return SetUp::Bad;
         };
-        let SetUp::Good = block.set_up(nodes) else {
-            return SetUp::Bad;
-        };
-        flush::same_arena(list, block)
+        block_land::lent(nodes)
     }
 
-    // The checks of a call, in their order: the set-up, a sound list, a sound table, no byte in both.
+    // The checks of a call: the set-up, a sound table, then in one walk a sound list with no byte that is in the table too.
     pub fn check(self, words: &[u64], nodes: &[u64], aim: Aim) -> PairCheck
         ensures { λ r. ⌜ r ≡ checkOf self (now (words .entry)) (now (nodes .entry)) aim ⌝ }
     {
@@ -98,22 +100,17 @@ impl Pair {
             return PairCheck::BadSetUp;
         };
         let list = self.list;
-        let list_land::Look::Sound(spot) = list.look(words, aim) else {
-            return PairCheck::Damaged;
-        };
         let block = self.block;
-        let block_land::Look::Sound(entry) = block.look(nodes, aim) else {
+        let arena = list.arena();
+        let bytes = block.bytes;
+        let Soundness::Sound = block_words::sound(arena, nodes, block.ranges, bytes) else {
             return PairCheck::Damaged;
         };
-        let Soundness::Sound = pair_words::apart(
-            list.arena(),
-            words,
-            list.head,
-            nodes,
-            block.ranges,
-        ) else {
+        let n = block.ranges as usize;
+        let arena = arena.divided();
+        let Verdict::Sound(spot) = walks::survey(arena, words, list.chain(), nodes, n, aim) else {
             return PairCheck::Damaged;
         };
-        PairCheck::Good(spot, entry)
+        PairCheck::Good(spot, seeks::entry(nodes, n, aim))
     }
 }

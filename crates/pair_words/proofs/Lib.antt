@@ -1,7 +1,10 @@
 pub mod Meets
 pub mod Describing
 pub mod Walking
-pub mod Merging
+pub mod Besides
+pub mod Abreast
+pub mod Judging
+pub mod Seeking
+pub mod Weighing
 pub mod Sharing
 pub mod Leaving
-pub mod Passing

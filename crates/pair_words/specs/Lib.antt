@@ -1,4 +1,4 @@
 pub mod Shares
 pub mod Lefts
-pub mod Passes
+pub mod Besides
 pub mod Descriptors

@@ -2,26 +2,22 @@
 //
 // Every function here is proved, and the crate assumes nothing of its own. These are inner functions: a `requires`
 // says what the calls of a pair have checked before.
+pub mod walks;
+
 use list_words::Spot;
 use units::Addr;
 use units::Arena;
 use units::Range;
 use units::Size;
-use units::Soundness;
-ghost use Prim.Native.Nat.{_≤_};
-ghost use mathlib.Core.Bool.{not, cond};
+ghost use mathlib.Core.Bool.{cond};
 ghost use mathlib.Core.Path.{_≡_};
 ghost use lib.Dec.{leb};
-ghost use Rattle.units.specs.Rules.{soundnessOf};
 ghost use Rattle.units.specs.declared.aims.Aim.{Aim};
 ghost use Rattle.list_words.specs.Surveys.{walkOf, kept-of};
-ghost use Rattle.block_words.specs.Words.{capacity, pairs};
-ghost use Rattle.transfers.specs.Transfers.{Going};
+ghost use Rattle.block_words.specs.Words.{pairs};
 ghost use Rattle.pair_model.specs.Pairs.{inside};
-ghost use Rattle.pair_model.specs.PairLayouts.{meet};
 ghost use Rattle.pair_words.specs.Shares.{share, Listed, Tabled};
 ghost use Rattle.pair_words.specs.Lefts.{Left};
-ghost use Rattle.pair_words.specs.Passes.{Passed};
 ghost use Rattle.pair_words.specs.Descriptors.{Standing, descriptorAt};
 
 // What the descriptor of a range says: its limit, and the base of the next range, or 0.
@@ -44,47 +40,6 @@ fn descriptor_at(arena: Arena, words: &[u64], at: Addr) -> Descriptor
     }
     let limit = Addr::new(words[i + 1]);
     Descriptor { limit, next }
-}
-
-// The first pair from number `from` on that ends above an address, or n.
-fn pass(nodes: &[u64], n: usize, from: usize, at: Addr) -> usize
-    requires { ⌜ n ≤ capacity (now nodes) ⌝ }
-    requires { ⌜ from ≤ n ⌝ }
-    ensures { λ r. ⌜ Passed (now (nodes .entry)) n from (at .0) r ⌝ }
-{
-    let mut i = from;
-    while i < n {
-        let pair = block_words::pair_at(nodes, i);
-        if !pair.limit.le(at) {
-            return i;
-        }
-        i += 1;
-    }
-    i
-}
-
-// Whether no range of a sound list overlaps one of a sound table: lands that overlap are damaged. Both are gone through once,
-// in address order.
-pub fn apart(arena: Arena, words: &[u64], head: Addr, nodes: &[u64], count: u64) -> Soundness
-    requires { ⌜ Going arena (now words) (head .0) (now nodes) count ⌝ }
-    ensures { λ r. ⌜ r ≡ soundnessOf (not (meet (walkOf arena (now (words .entry)) (head .0) .met) (pairs (now (nodes .entry)) count))) ⌝ }
-{
-    let n = count as usize;
-    let mut at = head;
-    let mut i: usize = 0;
-    while !at.is_zero() {
-        let here = descriptor_at(arena, words, at);
-        i = pass(nodes, n, i, at);
-        if n <= i {
-            return Soundness::Sound;
-        }
-        let pair = block_words::pair_at(nodes, i);
-        if !here.limit.le(pair.base) {
-            return Soundness::Damaged;
-        }
-        at = here.next;
-    }
-    Soundness::Sound
 }
 
 // The higher and the lower of two addresses.

@@ -1,5 +1,5 @@
 -- `Pair::check` meets its contract: the first check that fails. Assumes nothing.
-use Rattle.pair.proofs.Checking.{checks, check-going, check-overlap, check-good}
+use Rattle.pair.proofs.Checking.{checks, check-words, check-rising, check-good}
 use borrow.Author.Needs.{needs}
 use Rattle.pair.proofs.Pair.check.Statement.{statement}
 use Rattle.pair.proofs.Pair.check.Tie as tie
@@ -16,38 +16,11 @@ enum-told-2 c = search needs
 returns : tie.Need-returns
 returns c = search checks
 
-look-requires : tie.Need-look-requires
-look-requires c κs = search needs
-
-enum-known-spot : tie.Need-enum-known-spot
-enum-known-spot c = search needs
-
-returns-2 : tie.Need-returns-2
-returns-2 c = search checks
-
-look-requires-2 : tie.Need-look-requires-2
-look-requires-2 c κs = search needs
-
-enum-known-entry : tie.Need-enum-known-entry
-enum-known-entry c = search needs
-
-returns-3 : tie.Need-returns-3
-returns-3 c = search checks
-
 arena-requires : tie.Need-arena-requires
 arena-requires c κs = search needs
 
-apart-requires : tie.Need-apart-requires
-apart-requires c κs =
-    let table = c .before .before in
-    let second = table .before .before in
-    let list = second .before .before .before in
-    let first = list .before .before in
-    let good = first .before .before in
-    let up = good .before .before in
-    let entry = up .before .before .before in
-    check-going (entry .args .self) _ _ (entry .args .aim) _ (up .set-up .ensures) (good .enum-told .given .1) _ (first .look .ensures) _ (list .spot .given .1)
-    _ (second .look2 .ensures) _ (table .entry .given .1) _ (c .arena .ensures)
+sound-requires : tie.Need-sound-requires
+sound-requires c κs = search checks
 
 enum-told-3 : tie.Need-enum-told-3
 enum-told-3 c = search needs
@@ -55,31 +28,63 @@ enum-told-3 c = search needs
 enum-told-4 : tie.Need-enum-told-4
 enum-told-4 c = search needs
 
+returns-2 : tie.Need-returns-2
+returns-2 c = search checks
+
+divided-requires : tie.Need-divided-requires
+divided-requires c κs = search checks
+
+chain-requires : tie.Need-chain-requires
+chain-requires c κs = search needs
+
+survey-requires : tie.Need-survey-requires
+survey-requires c κs =
+    let divided = c .before in
+    let table = divided .before in
+    let sound = table .before .before in
+    let arena = sound .before .before in
+    let told = arena .before .before .before in
+    let up = told .before .before in
+    let entry = up .before .before .before in (
+      check-words (entry .args .self) _ _ (entry .args .aim) _ (up .set-up .ensures) (told .enum-told .given .1) _ (arena .arena .ensures) _ (divided .divided .ensures),
+      check-rising (entry .args .self) _ _ (entry .args .aim) _ (up .set-up .ensures) (told .enum-told .given .1) _ (arena .arena .ensures)
+          _ (sound .sound .ensures) (table .enum-told3 .given .1),
+    )
+
+enum-known-spot : tie.Need-enum-known-spot
+enum-known-spot c = search needs
+
+enum-told-5 : tie.Need-enum-told-5
+enum-told-5 c = search needs
+
+returns-3 : tie.Need-returns-3
+returns-3 c = search checks
+
+entry-requires : tie.Need-entry-requires
+entry-requires c κs =
+    let table = c .before .before .before .before .before .before in
+    let sound = table .before .before in
+    let arena = sound .before .before in
+    let told = arena .before .before .before in
+    let up = told .before .before in
+    let entry = up .before .before .before in
+    check-rising (entry .args .self) _ _ (entry .args .aim) _ (up .set-up .ensures) (told .enum-told .given .1) _ (arena .arena .ensures)
+    _ (sound .sound .ensures) (table .enum-told3 .given .1)
+
 returns-4 : tie.Need-returns-4
 returns-4 c =
-    let merged = c .before .before in
-    let table = merged .before .before .before in
-    let second = table .before .before in
-    let list = second .before .before .before in
-    let first = list .before .before in
-    let good = first .before .before in
-    let up = good .before .before in
+    let spot = c .before .before in
+    let walk = spot .before .before in
+    let chain = walk .before in
+    let divided = chain .before in
+    let table = divided .before in
+    let sound = table .before .before in
+    let arena = sound .before .before in
+    let told = arena .before .before .before in
+    let up = told .before .before in
     let entry = up .before .before .before in
-    check-overlap (entry .args .self) _ _ (entry .args .aim) _ (up .set-up .ensures) (good .enum-told .given .1) _ (first .look .ensures) _ (list .spot .given .1)
-    _ (second .look2 .ensures) _ (table .entry .given .1) _ (merged .before .arena .ensures) _ (merged .apart .ensures) (c .enum-told4 .given .1)
-
-returns-5 : tie.Need-returns-5
-returns-5 c =
-    let merged = c .before .before in
-    let table = merged .before .before .before in
-    let second = table .before .before in
-    let list = second .before .before .before in
-    let first = list .before .before in
-    let good = first .before .before in
-    let up = good .before .before in
-    let entry = up .before .before .before in
-    check-good (entry .args .self) _ _ (entry .args .aim) _ (up .set-up .ensures) (good .enum-told .given .1) _ (first .look .ensures) _ (list .spot .given .1)
-    _ (second .look2 .ensures) _ (table .entry .given .1) _ (merged .before .arena .ensures) _ (merged .apart .ensures) (c .enum-told3 .given .1)
+    check-good (entry .args .self) _ _ (entry .args .aim) _ (up .set-up .ensures) (told .enum-told .given .1) _ (arena .arena .ensures)
+    _ (sound .sound .ensures) (table .enum-told3 .given .1) _ (divided .divided .ensures) _ (chain .chain .ensures) _ (walk .survey .ensures) _ (spot .spot .given .1) _ (c .entry .ensures)
 
 pub check-spec : {M : Type 1} → statement M
 check-spec =
@@ -89,15 +94,16 @@ check-spec =
     enum-told
     enum-told-2
     returns
-    look-requires
-    enum-known-spot
-    returns-2
-    look-requires-2
-    enum-known-entry
-    returns-3
     arena-requires
-    apart-requires
+    sound-requires
     enum-told-3
     enum-told-4
-    returns-4
-    returns-5)
+    returns-2
+    divided-requires
+    chain-requires
+    survey-requires
+    enum-known-spot
+    enum-told-5
+    returns-3
+    entry-requires
+    returns-4)

@@ -1,14 +1,19 @@
 -- `Pair::insert_bare` meets its contract: the flush, and the range put in. Assumes nothing.
-use Rattle.pair.proofs.InsertFlushed.{bares, bare-0}
+use Rattle.pair.proofs.InsertFlushed.{bare-placed, bare-open, bare-0}
 use borrow.Author.Needs.{needs}
 use Rattle.pair.proofs.Pair.insert_bare.Statement.{statement}
 use Rattle.pair.proofs.Pair.insert_bare.Tie as tie
 
-flushed-requires : tie.Need-flushed-requires
-flushed-requires c κs = search bares
+prepared-requires : tie.Need-prepared-requires
+prepared-requires c κs =
+    let start = c .before .before .before .before in
+    bare-placed (start .args .self) _ _ (start .args .range) _ (start .args .entry) (start .pre)
 
 enter-requires : tie.Need-enter-requires
-enter-requires c κs = search bares
+enter-requires c κs =
+    let prepared = c .before .before .before .before .before in
+    let start = prepared .before .before .before .before .before in
+    (bare-open (start .args .self) _ _ (start .args .range) _ (start .args .entry) (start .pre) _ _ (prepared .prepared .ensures .0), prepared .prepared .ensures .1)
 
 same-length : tie.Need-same-length
 same-length c = search needs
@@ -18,8 +23,12 @@ same-length-2 c = search needs
 
 returns : tie.Need-returns
 returns c =
-    bare-0 (c .before .before .before .before .before .before .before .before .before .before .before .before .before .before .args .self) _ _ (c .before .before .before .before .before .before .before .before .before .before .before .before .before .before .args .range) _ (c .before .before .before .before .before .before .before .before .before .before .before .before .before .before .pre) _ _ (c .before .before .before .before .before .before .before .before .before .flushed .ensures) _ _ _ (c .before .before .before .before .enter .ensures)
+    let enter = c .before .before .before .before in
+    let prepared = enter .before .before .before .before .before .before in
+    let start = prepared .before .before .before .before .before in
+    bare-0 (start .args .self) _ _ (start .args .range) _ (start .args .entry) (start .pre) _ _ (prepared .prepared .ensures .0)
+    _ _ _ (enter .enter .ensures)
 
 pub insert-bare-spec : {M : Type 1} → statement M
 insert-bare-spec =
-    tie.close (tie.spec flushed-requires enter-requires same-length same-length-2 returns)
+    tie.close (tie.spec prepared-requires enter-requires same-length same-length-2 returns)
