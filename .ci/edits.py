@@ -10,7 +10,9 @@ from nothing; those in crates/NAME/must-fail/more are tried here alone. --one tr
 said of each to FOLDER/CRATE/LABEL.log.
 
 An edit is applied to its crate in a copy of the repository, one for each processor, and the crate is checked over an
-incremental folder with the modules of the crate as it was proved: what the edit does not reach is not checked again. It fails
+incremental folder with the modules of the crate as it was proved: what the edit does not reach is not checked again. Edits of
+the code of different functions are applied together and each is judged by what is said of its own function (rounds.py); one
+that is not refused so is tried again alone, and that decides. It fails
 if the crate is still proved, if it does not reach the prover, if an 'old:' text is not in its file exactly once, if the log has
 no error, or if the crate is refused only for the edit's shape: an error of a name or a need (refusals.py); no error outside the
 proofs of functions that got another shape (shapes.py), unless the edit brings the proof for it; only rewritings that do not
@@ -34,6 +36,7 @@ import time
 
 from editfiles import BadEdit, by_rt, crates, edited, further, name_of, strays
 from refusals import refusal
+from rounds import parts, rounds
 from shapes import functions, proofs_of, reshaped
 
 
@@ -156,6 +159,49 @@ class Trial:
             return *log_of_rt(self.crate, edit), shape
         return *check(self.copy, self.crate), shape
 
+    def round(self, members):
+        """Tries (edit, proofs) pairs of different functions in one check; gives the edits that it does not judge."""
+        began, originals = time.time(), {}
+        try:
+            for edit, _ in members:
+                before, after, _ = edited(self.copy, self.crate, edit)
+                originals = before | originals
+                write(after)
+            now = self.compiled()
+            changed = {proof for proof in set(now) | set(self.functions) if now.get(proof) != self.functions.get(proof)}
+            wanted = set().union(*(proofs for _, proofs in members))
+            status, log = check(self.copy, self.crate) if changed == wanted else (0, "")
+            said = parts(self.copy, self.crate, log, changed) if status == 1 else None
+        except BadEdit:
+            said = None
+        finally:
+            write(originals)
+        if said is None:
+            return [edit for edit, _ in members]
+        return self.judged_in(members, *said, reshaped(self.copy, self.functions, now), (time.time() - began) / len(members))
+
+    def judged_in(self, members, errors, ended, shape, took):
+        """Judges the (edit, proofs) pairs of a round that are refused as they should be; gives the other edits."""
+        left = []
+        for edit, proofs in members:
+            log = "\n".join([error for proof in sorted(proofs) for error in errors[proof]] + ended)
+            wrong, where = refusal(log, sorted(proofs.intersection(shape)))
+            if wrong is None:
+                keep(self.given.keep, name_of(self.crate, edit), log)
+                self.record.judged(name_of(self.crate, edit), None, where, True, took)
+            else:
+                left.append(edit)
+        return left
+
+    def all(self, edits):
+        """Tries edits, those of different functions together. Of those that rt ci has tried the logs are read."""
+        read = by_rt(self.crate) if self.given.after_ci else []
+        together, alone = rounds(self.copy, self.crate, [edit for edit in edits if edit not in read], self.functions)
+        for members in together:
+            alone = alone + self.round(members)
+        for edit in [edit for edit in edits if edit in read] + alone:
+            self.edit(edit)
+
     def edit(self, edit):
         """Tries an edit."""
         name, began = name_of(self.crate, edit), time.time()
@@ -217,9 +263,7 @@ def work(copy, waiting, given, record):
         while True:
             crate, edits = waiting.get_nowait()
             lay_modules(copy, crate, modules)
-            trial = Trial(copy, crate, given, record)
-            for edit in edits:
-                trial.edit(edit)
+            Trial(copy, crate, given, record).all(edits)
             if not proved(copy, crate):
                 record.fault(f"edits of {crate}: FAILED: the crate is not proved once its edits are undone")
     except queue.Empty:

@@ -76,6 +76,25 @@ FILES = {
     "mir": f'(fn-def "one::f" (fnItem 0 lnil {SUM}))',
     "mir-of-another-shape": f'(fn-def "one::f" (fnItem 0 lnil {TEST.format(SUM)}))',
 }
+# The same with a second function: an edit of each in one check.
+BESIDE = "crates/one/proofs/g/Proof.antt"
+FACT_BESIDE = FACT.replace(PROOF, BESIDE)
+TWO = {
+    "crates/one/src/lib.rt": FILES["crates/one/src/lib.rt"] + "\nimpl T {\n    fn h() {\n    }\n}\n\nfn g() -> u64\n{\n    7\n}\n",
+    BESIDE: FILES[PROOF],
+    "crates/one/proofs/T/h/Proof.antt": FILES[PROOF],
+    OTHER: "file: src/lib.rt\nold:     7\nnew:     8\n",
+    "mir": f'{FILES["mir"]} (fn-def "one::T::h" (fnItem 2 lnil {SUM})) (fn-def "one::g" (fnItem 1 lnil {SUM}))',
+    "log": f"{FACT}\n{LATER}\n{ENDED}\n",
+}
+# In rt's place with two functions: of an edited function the form differs, and what is said of each is said where it is edited.
+SAYS_EACH = (
+    f"if grep -q '    2' crates/one/src/lib.rt; then echo '{FACT}'; fi; "
+    f"if grep -q '    8' crates/one/src/lib.rt; then echo '{FACT_BESIDE}'; fi; "
+    f"if grep -q 'r ≡ 2' crates/one/src/lib.rt; then echo '{LAW}'; fi; echo {ENDED}; exit 1"
+)
+SAYS_ONE = SAYS_EACH.replace(FACT_BESIDE, LATER)
+SAYS_LAW = SAYS_EACH.replace(f"echo {ENDED}", f"echo '{LAW}'; echo {ENDED}")
 RESHAPES = "file: src/lib.rt\nold:     1\nnew:     if x { return 2; } 1\n"
 NOWHERE = "file: src/lib.rt\nold: 7\nnew: 8\n"
 WITH_PROOF = f"{RESHAPES}file: proofs/f/Proof.antt\nold: as tie\nnew: as t\n"
@@ -84,6 +103,7 @@ LOG_OF_RT = "target/must-fail/one/code/.log"
 REFUSES = "cat $top/log; exit 1"
 LOST = ["a worker FAILED", "3 edits found, 0 judged", "one/other: FAILED: it was not judged"]
 SHAPED = "one/other: FAILED: refused for its shape"
+TOGETHER = "one/other: refused at crates/one/proofs/g"
 PASSED = ["3 edits found, 3 judged: 2 of code, 1 of definitions or contracts", "3 passed, 0 failed"]
 
 # (what rt does, that of an edited crate as a shell script, words of edits.py, further files, exit status, what must be said)
@@ -109,6 +129,9 @@ RUNS = [
     ("refuses, an edit in another folder", REFUSES, [], {"crates/one/must-fail/more/more/lost.edit": ""}, 1, ["lost.edit: FAILED"]),
     ("refuses, an edit with another name", REFUSES, [], {"crates/one/must-fail/lost.edit.txt": ""}, 1, ["lost.edit.txt: FAILED"]),
     ("refuses, two edits of one name", REFUSES, [], {"crates/one/must-fail/more/code.edit": RESHAPES}, 1, ["code.edit: FAILED"]),
+    ("says of each of two functions", SAYS_EACH, [], TWO, 0, PASSED + [TOGETHER, "2 checks"]),
+    ("says of one of two functions", SAYS_ONE, [], TWO, 1, ["one/other: FAILED: refused without an error", "2 passed, 1 failed", "3 checks"]),
+    ("says of two functions and of a law", SAYS_LAW, [], TWO, 0, PASSED + ["4 checks"]),
     ("refuses, after rt ci", REFUSES, ["--after-ci"], {LOG_OF_RT: FILES["log"] + "\udcff\n"}, 0, PASSED),
     ("refuses, after rt ci for a shape", REFUSES, ["--after-ci"], {LOG_OF_RT: f"{OF_SHAPE[0]}\n{ENDED}\n"}, 1, ["one/code: FAILED: refused for its shape"]),
     ("refuses, after rt ci without a log", REFUSES, ["--after-ci"], {}, 1, ["one/code: FAILED: rt ci has not tried it"]),
@@ -129,10 +152,14 @@ def script(top, does):
 top={top}
 if [ $1 = mir ]; then
     if grep -q return crates/one/src/lib.rt; then exec grep . $top/mir-of-another-shape; fi
-    exec cat $top/mir
+    if grep -q '    2' crates/one/src/lib.rt; then of_f=2; fi
+    if grep -q '    8' crates/one/src/lib.rt; then of_g=8; fi
+    sed "s/fnItem 0/fnItem 0$of_f/; s/fnItem 1/fnItem 1$of_g/" $top/mir
+    exit 0
 fi
 mkdir -p target/inc/one/modules
 if cmp -s crates/one/src/lib.rt $top/crates/one/src/lib.rt && [ ! -f broken ]; then echo logic=proved; exit 0; fi
+echo >> $top/checks
 {does}
 """
 
@@ -149,7 +176,8 @@ def wrong_run(does, words, further, status, says):
             paths += ["/usr/bin", "/bin"]
         ran = subprocess.run([sys.executable, os.path.join(HERE, "edits.py"), "--one", *words], cwd=top,
                              env=os.environ | {"PATH": ":".join(paths)}, stdout=subprocess.PIPE, stderr=subprocess.STDOUT)
-    said = ran.stdout.decode("utf-8", errors="replace")
+        checks = len(open(os.path.join(top, "checks")).read()) if os.path.exists(os.path.join(top, "checks")) else 0
+    said = ran.stdout.decode("utf-8", errors="replace") + f"{checks} checks\n"
     missing = [text for text in says if text not in said]
     if ran.returncode == status and not missing:
         return None
