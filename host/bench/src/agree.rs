@@ -1,93 +1,8 @@
-//! The three implementations compared: results, handles and all words.
+//! The four implementations compared on set-ups, damaged lands, overlapping lands and random requests.
 
 use crate::abi::*;
+use crate::four::{Four, Further};
 use crate::workload::*;
-
-/// A land three times over, once for each implementation.
-struct Three<L: Land> {
-    land: L,
-    memory: [L::Memory; 3],
-}
-
-fn same<T: PartialEq + std::fmt::Debug>(what: &str, [proved, c, rust]: [T; 3]) -> T {
-    assert!(proved == c && proved == rust, "{what} differ\nproved: {proved:?}\nC: {c:?}\nRust: {rust:?}");
-    proved
-}
-
-impl<L: Land> Three<L> {
-    fn new(land: L, memory: L::Memory) -> Self {
-        let memory = [memory.clone(), memory.clone(), memory];
-        Self { land, memory }
-    }
-
-    fn words_agree(&self, what: &str) {
-        let [proved, c, rust] = &self.memory;
-        assert!(proved == c && proved == rust, "words after {what} differ");
-    }
-
-    fn change(&mut self, change: Change) -> Changed<L> {
-        let what = if change.insert { "insert" } else { "delete" };
-        let land = self.land;
-        let [proved, c, rust] = &mut self.memory;
-        let results = [
-            change_by::<Proved, L>(land, proved, change),
-            change_by::<HandC, L>(land, c, change),
-            change_by::<HandRust, L>(land, rust, change),
-        ];
-        self.words_agree(what);
-        let changed = same(what, results);
-        self.land = changed.land;
-        changed
-    }
-
-    fn find_first(&mut self, size: u64, mode: u64) -> Found<L> {
-        let land = self.land;
-        let [proved, c, rust] = &mut self.memory;
-        let results = [
-            Calls::<Proved>::find_first(land, proved, size, mode),
-            Calls::<HandC>::find_first(land, c, size, mode),
-            Calls::<HandRust>::find_first(land, rust, size, mode),
-        ];
-        self.words_agree("find first");
-        let found = same("find first", results);
-        self.land = found.land;
-        found
-    }
-
-    /// One call of each sort must give this answer and change nothing.
-    fn must_be_refused(mut self, what: &str, answer: u64) {
-        let (land, memory) = (self.land, self.memory[0].clone());
-        let range = Range { base: BASE, limit: BASE + ALIGN };
-        let answers = [
-            self.change(Change { insert: true, range }).answer,
-            self.change(Change { insert: false, range }).answer,
-            self.find_first(ALIGN + 1, MODE_LOW).answer,
-        ];
-        assert_eq!(answers, [answer; 3], "answers to {what}");
-        assert!(self.land == land && self.memory[0] == memory, "{what}: changed");
-    }
-}
-
-/// Plays the requests on all three and compares after every call.
-pub fn over_requests<L: Land>(chequer: &Chequer, requests: &Requests) {
-    let (land, memory) = L::holding(chequer);
-    let mut three = Three::new(land, memory);
-    match requests {
-        Requests::Changes(changes) => {
-            for &change in changes {
-                assert_eq!(three.change(change).answer, ANSWER_OK, "answer to a change");
-            }
-        }
-        Requests::Finds(sizes) => {
-            for &size in sizes {
-                let found = three.find_first(size, MODE_LOW);
-                let range = found.range;
-                let changed = three.change(Change { insert: true, range });
-                assert_eq!([found.answer, changed.answer], [ANSWER_OK; 2], "answers to a find");
-            }
-        }
-    }
-}
 
 /// A name, and what is done to a sound land.
 type Damage<L> = (&'static str, fn(&mut L, &mut Vec<u64>));
@@ -106,7 +21,7 @@ const LIST_DAMAGES: [Damage<ListLand>; 11] = [
     ("a ragged limit", |land, words| words[word_at(land.head) + 1] -= 4),
 ];
 
-const BLOCK_DAMAGES: [Damage<BlockLand>; 11] = [
+const BLOCK_DAMAGES: [Damage<BlockLand>; 12] = [
     ("a range counted too many", |land, _| land.ranges += 1),
     ("a range counted too few", |land, _| land.ranges -= 1),
     ("more ranges than the capacity", |land, words| land.ranges = words.len() as u64 / 2 + 1),
@@ -127,6 +42,12 @@ const BLOCK_DAMAGES: [Damage<BlockLand>; 11] = [
         land.bytes += words[0];
         words[0] = 0;
     }),
+    ("words that go round 2^64 once, each step below 2^63", |land, words| {
+        words[2] += 1 << 62;
+        words[3] += 2 << 62;
+        words[4] += 3 << 62;
+        land.bytes = land.bytes.wrapping_add(1 << 63);
+    }),
 ];
 
 fn word_at(base: u64) -> usize {
@@ -139,24 +60,39 @@ fn chequered_pair(chequer: &Chequer) -> (Pair, [Vec<u64>; 2]) {
     divided(chequer, &tabled)
 }
 
+/// Links a grain in the arena's last word, which touches the last range, to the end of the list, with counts that fit.
+fn touch_at_the_end(land: &mut ListLand, words: &mut [u64]) {
+    let mut last = word_at(land.head);
+    while words[last] & !1 != 0 {
+        last = word_at(words[last] & !1);
+    }
+    words[last] |= land.limit - 8;
+    words[word_at(land.limit - 8)] = 1;
+    land.ranges += 1;
+    land.bytes += 8;
+}
+
 /// Damaged lands of both kinds answer 6, alone and in a pair.
 pub fn on_damage() {
     let chequer = &Chequer::new(16, Filling::Roomy, &mut Random::new(1));
+    let (mut land, [mut words]) = ListLand::holding(chequer);
+    touch_at_the_end(&mut land, &mut words);
+    Four::new(land, [words]).must_be_refused("a last grain that touches", ANSWER_DAMAGED);
     for (what, damage) in LIST_DAMAGES {
         let (mut land, [mut words]) = ListLand::holding(chequer);
         damage(&mut land, &mut words);
-        Three::new(land, [words]).must_be_refused(what, ANSWER_DAMAGED);
+        Four::new(land, [words]).must_be_refused(what, ANSWER_DAMAGED);
         let (mut pair, [mut words, nodes]) = chequered_pair(chequer);
         damage(&mut pair.list, &mut words);
-        Three::new(pair, [words, nodes]).must_be_refused(what, ANSWER_DAMAGED);
+        Four::new(pair, [words, nodes]).must_be_refused(what, ANSWER_DAMAGED);
     }
     for (what, damage) in BLOCK_DAMAGES {
         let (mut land, [mut nodes]) = BlockLand::holding(chequer);
         damage(&mut land, &mut nodes);
-        Three::new(land, [nodes]).must_be_refused(what, ANSWER_DAMAGED);
+        Four::new(land, [nodes]).must_be_refused(what, ANSWER_DAMAGED);
         let (mut pair, [words, mut nodes]) = chequered_pair(chequer);
         damage(&mut pair.block, &mut nodes);
-        Three::new(pair, [words, nodes]).must_be_refused(what, ANSWER_DAMAGED);
+        Four::new(pair, [words, nodes]).must_be_refused(what, ANSWER_DAMAGED);
     }
 }
 
@@ -169,12 +105,12 @@ pub fn on_overlaps() {
         for (base, limit) in [(base, limit), (base - 8, base + 8), (limit - 8, limit + 8), (base - 8, limit + 8)] {
             let overlap = Change { insert: true, range: Range { base, limit } };
             let (pair, memory) = in_one_land(pair, memory.clone(), overlap);
-            Three::new(pair, memory).must_be_refused("overlapping lands", ANSWER_DAMAGED);
+            Four::new(pair, memory).must_be_refused("overlapping lands", ANSWER_DAMAGED);
         }
         for (base, limit) in [(base - 8, base), (limit, limit + 8)] {
             let touch = Change { insert: true, range: Range { base, limit } };
             let (pair, memory) = in_one_land(pair, memory.clone(), touch);
-            let found = Three::new(pair, memory).find_first(8, MODE_NONE);
+            let found = Four::new(pair, memory).find_first(8, MODE_NONE);
             assert_eq!(found.answer, ANSWER_OK, "answer to lands that touch");
         }
     }
@@ -196,9 +132,9 @@ fn in_one_land(mut pair: Pair, memory: [Vec<u64>; 2], change: Change) -> (Pair, 
 /// Arenas of length 0 in both lands and in a pair. No request fits one, so that 4 is as far as a good set-up comes.
 fn empty_answers(base: u64, limit: u64, align: u64, answer: u64) {
     let (list, block) = empty_lands(base, limit, align);
-    Three::new(list, [vec![]]).must_be_refused("an arena", answer);
-    Three::new(block, [vec![]]).must_be_refused("an arena", answer);
-    Three::new(Pair { list, block }, [vec![], vec![]]).must_be_refused("an arena", answer);
+    Four::new(list, [vec![]]).must_be_refused("an arena", answer);
+    Four::new(block, [vec![]]).must_be_refused("an arena", answer);
+    Four::new(Pair { list, block }, [vec![], vec![]]).must_be_refused("an arena", answer);
 }
 
 fn empty_lands(base: u64, limit: u64, align: u64) -> (ListLand, BlockLand) {
@@ -221,22 +157,22 @@ pub fn on_set_ups() {
     }
     let (list, block) = empty_lands(AT, AT + 64, 8);
     for n in [0, 7, 9] {
-        Three::new(list, [vec![0; n]]).must_be_refused("a lent length", ANSWER_SET_UP);
-        Three::new(Pair { list, block }, [vec![0; n], vec![0; 4]]).must_be_refused("a lent length", ANSWER_SET_UP);
+        Four::new(list, [vec![0; n]]).must_be_refused("a lent length", ANSWER_SET_UP);
+        Four::new(Pair { list, block }, [vec![0; n], vec![0; 4]]).must_be_refused("a lent length", ANSWER_SET_UP);
     }
     for (base, limit, align) in [(AT + 8, AT + 64, 8), (AT, AT + 72, 8), (AT, AT + 64, 16)] {
         let (other_list, other_block) = empty_lands(base, limit, align);
         let [words, other_words] = [64, limit - base].map(|length| vec![0; length as usize / 8]);
         let nodes = vec![0; 4];
         let pair = Pair { list, block: other_block };
-        Three::new(pair, [words, nodes.clone()]).must_be_refused("two arenas", ANSWER_SET_UP);
+        Four::new(pair, [words, nodes.clone()]).must_be_refused("two arenas", ANSWER_SET_UP);
         let pair = Pair { list: other_list, block };
-        Three::new(pair, [other_words, nodes]).must_be_refused("two arenas", ANSWER_SET_UP);
+        Four::new(pair, [other_words, nodes]).must_be_refused("two arenas", ANSWER_SET_UP);
     }
     let (list, block) = empty_lands(AT, AT, 8);
     for (m, answer) in [(2_097_152, ANSWER_REQUEST), (2_097_153, ANSWER_SET_UP)] {
-        Three::new(block, [vec![0; m]]).must_be_refused("long node space", answer);
-        Three::new(Pair { list, block }, [vec![], vec![0; m]]).must_be_refused("long node space", answer);
+        Four::new(block, [vec![0; m]]).must_be_refused("long node space", answer);
+        Four::new(Pair { list, block }, [vec![], vec![0; m]]).must_be_refused("long node space", answer);
     }
 }
 
@@ -264,7 +200,7 @@ fn random_pairs(calls: usize) -> [bool; 8] {
     let arena = Range { base: BASE, limit: BASE + 8 * 24 };
     let mut seen = [false; 8];
     for capacity in 0..CAPACITIES {
-        let (pair, [words, mut nodes]) = Pair::holding(&Chequer { arena, ranges: vec![], capacity });
+        let (pair, [words, mut nodes]) = Pair::holding(&Chequer { arena, ranges: vec![], capacity, tabled: 0 });
         nodes.push(0);
         let now = random_on(pair, [words, nodes], arena, calls / CAPACITIES, spoil_pair);
         (0..8).for_each(|answer| seen[answer] |= now[answer]);
@@ -307,36 +243,45 @@ fn spoil_pair(pair: &mut Pair, memory: &mut [Vec<u64>; 2], random: &mut Random) 
 }
 
 fn any_step(random: &mut Random) -> u64 {
-    [1, 4, 8, 16, u64::MAX, u64::MAX - 7, 1 << 41][random.below(7) as usize]
+    [1, 4, 8, 16, u64::MAX, u64::MAX - 7, 1 << 41, 1 << 63][random.below(8) as usize]
 }
 
 fn any_align(random: &mut Random) -> u64 {
     [0, 1, 4, 8, 12, 16, 4096, 8192][random.below(8) as usize]
 }
 
-fn any_range(arena: Range, random: &mut Random) -> Range {
+pub fn any_range(arena: Range, random: &mut Random) -> Range {
     let words = (arena.limit - arena.base) / 8;
     let base = arena.base + 8 * random.below(words) - 8 * (random.below(32) / 31);
     let limit = base + 8 * random.below(6) + 4 * (random.below(32) / 31);
     Range { base, limit }
 }
 
-fn random_call<L: Land>(three: &mut Three<L>, arena: Range, random: &mut Random) -> u64 {
-    if random.below(4) == 0 {
-        let size = 8 * random.below(8) + random.below(32) / 31;
-        return three.find_first(size, random.below(5)).answer;
+/// Where a walk begins: in the arena, or anywhere.
+pub fn any_from(arena: Range, random: &mut Random) -> u64 {
+    match random.below(8) {
+        0 => any_step(random),
+        _ => arena.base + random.below(arena.limit - arena.base + 8),
     }
-    let insert = random.below(2) == 1;
-    let range = any_range(arena, random);
-    three.change(Change { insert, range }).answer
+}
+
+fn random_call<L: Further>(four: &mut Four<L>, arena: Range, random: &mut Random) -> u64 {
+    let size = 8 * random.below(8) + random.below(32) / 31;
+    match random.below(16) {
+        0 | 1 => four.find_first(size, random.below(5)).answer,
+        2 => four.find_last(size, random.below(5)).answer,
+        3 => four.find_largest(size, random.below(5)).answer,
+        4 | 5 => L::further(four, arena, random),
+        _ => four.change(Change { insert: random.below(2) == 1, range: any_range(arena, random) }).answer,
+    }
 }
 
 /// Damages a land, or its memory, in a way of its own.
 type Spoil<L> = fn(&mut L, &mut <L as Handle>::Memory, &mut Random);
 
 /// Adds to a random word, or spoils the land; then the counts may be made to fit.
-fn damaged<L: Land>(three: &Three<L>, random: &mut Random, spoil: Spoil<L>) -> Three<L> {
-    let (mut land, mut memory) = (three.land, three.memory[0].clone());
+fn damaged<L: Land>(four: &Four<L>, random: &mut Random, spoil: Spoil<L>) -> Four<L> {
+    let (mut land, mut memory) = (four.land, four.memory[0].clone());
     if random.below(4) == 0 {
         spoil(&mut land, &mut memory, random);
     } else {
@@ -348,17 +293,17 @@ fn damaged<L: Land>(three: &Three<L>, random: &mut Random, spoil: Spoil<L>) -> T
     if random.below(2) == 0 {
         land.recount(&memory);
     }
-    Three::new(land, memory)
+    Four::new(land, memory)
 }
 
 /// Which answers were seen.
-fn random_on<L: Land>(land: L, memory: L::Memory, arena: Range, calls: usize, spoil: Spoil<L>) -> [bool; 8] {
+fn random_on<L: Further>(land: L, memory: L::Memory, arena: Range, calls: usize, spoil: Spoil<L>) -> [bool; 8] {
     let random = &mut Random::new(11);
     let mut seen = [false; 8];
-    let mut three = Three::new(land, memory);
+    let mut four = Four::new(land, memory);
     for _ in 0..calls / 2 {
-        seen[random_call(&mut three, arena, random) as usize] = true;
-        let mut damaged = damaged(&three, random, spoil);
+        seen[random_call(&mut four, arena, random) as usize] = true;
+        let mut damaged = damaged(&four, random, spoil);
         seen[random_call(&mut damaged, arena, random) as usize] = true;
     }
     seen

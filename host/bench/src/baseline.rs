@@ -1,9 +1,12 @@
-//! The calls of baseline.c in safe Rust: same checks in the same order, same words, one pass over the ranges per call.
+//! The calls of baseline.c in safe Rust: same checks in the same order, same words. Insert, delete and find first make one
+//! pass over the ranges.
 
 #![forbid(unsafe_code)]
 
+mod further;
 mod pair;
 
+pub use further::*;
 pub use pair::{pair_delete, pair_find_first, pair_insert};
 
 use crate::abi::*;

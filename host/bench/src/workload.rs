@@ -35,22 +35,28 @@ pub enum Filling {
     Roomy,
     /// Half as many pairs as ranges.
     Short,
+    /// Some pairs more than ranges, and half of the ranges in the list.
+    Halved,
+    /// So many times the ranges.
+    Times(usize),
 }
 
 impl Filling {
-    fn capacity(self, ranges: usize) -> usize {
+    pub fn capacity(self, ranges: usize) -> usize {
         match self {
-            Self::Roomy => ranges + SPARE_PAIRS,
+            Self::Roomy | Self::Halved => ranges + SPARE_PAIRS,
             Self::Short => ranges / 2,
+            Self::Times(times) => times * ranges,
         }
     }
 }
 
-/// Free ranges with granted gaps between them, and the capacity of node space.
+/// Free ranges with granted gaps between them, the capacity of node space, and how many of the ranges a pair has there.
 pub struct Chequer {
     pub arena: Range,
     pub ranges: Vec<Range>,
     pub capacity: usize,
+    pub tabled: usize,
 }
 
 fn stair(step: usize) -> u64 {
@@ -72,7 +78,9 @@ impl Chequer {
             ranges.push(Range { base, limit: at });
         }
         let arena = Range { base: BASE, limit: at + 8 };
-        Self { arena, ranges, capacity: filling.capacity(count) }
+        let capacity = filling.capacity(count);
+        let tabled = if filling == Filling::Halved { count / 2 } else { capacity };
+        Self { arena, ranges, capacity, tabled }
     }
 
     /// The same arena and node space with some of the ranges.
@@ -86,7 +94,9 @@ impl Chequer {
 }
 
 /// A land of either kind, or a pair, that holds a chequer's ranges, written down by the paper's layout and by no call.
-pub trait Land: Calls<Proved> + Calls<HandC> + Calls<HandRust> + Copy + PartialEq + std::fmt::Debug {
+pub trait Land:
+    Calls<Proved> + Calls<ExitC> + Calls<BestC> + Calls<HandRust> + Copy + PartialEq + std::fmt::Debug
+{
     fn holding(chequer: &Chequer) -> (Self, Self::Memory);
 
     /// Makes the counts those of a walk that checks nothing.
@@ -165,11 +175,11 @@ pub fn divided(chequer: &Chequer, tabled: &[bool]) -> (Pair, [Vec<u64>; 2]) {
 }
 
 impl Land for Pair {
-    /// The block land holds as many as it can, anywhere in the arena.
+    /// Those in the block land lie anywhere in the arena.
     fn holding(chequer: &Chequer) -> (Self, Self::Memory) {
         let count = chequer.ranges.len();
         let random = &mut Random::new(count as u64);
-        let mut tabled: Vec<bool> = (0..count).map(|i| i < chequer.capacity).collect();
+        let mut tabled: Vec<bool> = (0..count).map(|i| i < chequer.tabled).collect();
         for i in 1..count {
             tabled.swap(i, random.below(i as u64 + 1) as usize);
         }
@@ -188,31 +198,86 @@ pub struct Change {
     pub range: Range,
 }
 
+/// What is asked of a land.
+#[derive(Clone, Copy, Debug, PartialEq)]
+pub enum Workload {
+    /// Random insert and delete.
+    Changes,
+    /// Find first low, and insert back.
+    Finds,
+    /// The walk from random numbers.
+    Walk,
+    /// Find last, mode none.
+    Last,
+    /// Find largest of size 0, mode none.
+    Largest,
+    /// The flush of half of the ranges; the copying back of node space is part of it.
+    Flush,
+    /// As the first, on a pointer.
+    ChangesAt,
+    /// The walk on a pointer.
+    WalkAt,
+}
+
+pub const WORKLOADS: [Workload; 8] = [
+    Workload::Changes,
+    Workload::Finds,
+    Workload::Walk,
+    Workload::Last,
+    Workload::Largest,
+    Workload::Flush,
+    Workload::ChangesAt,
+    Workload::WalkAt,
+];
+pub const WORKLOAD_NAMES: [&str; 8] = ["1", "2", "walk", "last", "largest", "flush", "1-at", "walk-at"];
+
+impl Workload {
+    pub fn name(self) -> &'static str {
+        WORKLOAD_NAMES[self as usize]
+    }
+}
+
 pub enum Requests {
-    /// Workload 1.
     Changes(Vec<Change>),
-    /// Workload 2: each size is found first, low, and what was found is inserted back.
-    Finds(Vec<u64>),
+    /// Sizes to find.
+    Sizes(Vec<u64>),
+    /// Where walks begin.
+    Froms(Vec<u64>),
+    /// So many flushes, and the node space before each.
+    Flushes(usize, Vec<u64>),
 }
 
 impl Requests {
-    /// Requests that a land holding the chequer accepts one after the other, tried out on the hand-written Rust. A pair
-    /// refuses to delete what has come to lie in both lands; another request is made then.
-    pub fn new<L: Land>(workload: u32, chequer: &Chequer, calls: usize, random: &mut Random) -> Self {
-        let (land, memory) = L::holding(chequer);
-        let mut trial = Trial { land, memory };
+    /// Requests that a land holding the chequer accepts one after the other, where need be tried out on the hand-written
+    /// Rust. A pair refuses to delete what has come to lie in both lands; another request is made then.
+    pub fn new<L: Land>(workload: Workload, chequer: &Chequer, calls: usize, random: &mut Random) -> Self {
+        let (land, mut memory) = L::holding(chequer);
         let pairs = calls.div_ceil(2);
-        if workload == 1 {
-            let changes = (0..pairs).flat_map(|_| trial.accepted_change(chequer, random));
-            return Self::Changes(changes.collect());
+        match workload {
+            Workload::Changes | Workload::ChangesAt => {
+                let mut trial = Trial { land, memory };
+                Self::Changes((0..pairs).flat_map(|_| trial.accepted_change(chequer, random)).collect())
+            }
+            Workload::Finds => {
+                let mut trial = Trial { land, memory };
+                Self::Sizes((0..pairs).map(|_| trial.accepted_size(random)).collect())
+            }
+            Workload::Walk | Workload::WalkAt => {
+                let last = chequer.ranges.last().map_or(0, |range| range.base);
+                Self::Froms((0..calls).map(|_| BASE + random.below(last - BASE + 1)).collect())
+            }
+            Workload::Last => Self::Sizes((0..calls).map(|_| 8 + 8 * random.below(4)).collect()),
+            Workload::Largest => Self::Sizes(vec![0; calls]),
+            Workload::Flush => Self::Flushes(calls, memory.as_mut().last().cloned().unwrap_or_default()),
         }
-        Self::Finds((0..pairs).map(|_| trial.accepted_size(random)).collect())
     }
 
-    pub fn calls(&self) -> usize {
+    /// The number of requests.
+    pub fn len(&self) -> usize {
         match self {
             Self::Changes(changes) => changes.len(),
-            Self::Finds(sizes) => 2 * sizes.len(),
+            Self::Sizes(numbers) | Self::Froms(numbers) => numbers.len(),
+            Self::Flushes(calls, _) => *calls,
         }
     }
 }
@@ -293,28 +358,4 @@ pub fn change_by<I, L: Calls<I>>(land: L, memory: &mut L::Memory, change: Change
     } else {
         land.delete(memory, change.range)
     }
-}
-
-/// Plays the requests. Every one must be accepted.
-pub fn play<I, L: Land + Calls<I>>(mut land: L, memory: &mut L::Memory, requests: &Requests) -> L {
-    let mut answers = 0;
-    match requests {
-        Requests::Changes(changes) => {
-            for &change in changes {
-                let changed = change_by::<I, L>(land, memory, change);
-                land = changed.land;
-                answers |= changed.answer;
-            }
-        }
-        Requests::Finds(sizes) => {
-            for &size in sizes {
-                let found = Calls::<I>::find_first(land, memory, size, MODE_LOW);
-                let changed = Calls::<I>::insert(found.land, memory, found.range);
-                land = changed.land;
-                answers |= found.answer | changed.answer;
-            }
-        }
-    }
-    assert_eq!(answers, ANSWER_OK, "a request was refused");
-    land
 }

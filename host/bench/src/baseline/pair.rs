@@ -2,7 +2,7 @@
 
 use super::*;
 
-fn set_up_ok(pair: &Pair, n: usize, m: usize) -> bool {
+pub(super) fn set_up_ok(pair: &Pair, n: usize, m: usize) -> bool {
     let Pair { list, block } = pair;
     list_set_up_ok(list, n)
         && block_set_up_ok(block, m)
@@ -78,7 +78,7 @@ impl<'m> Merge<'m> {
 }
 
 /// The range at an address of a sound list; none at 0.
-fn node_at(land: &ListLand, words: &[u64], at: u64) -> Node {
+pub(super) fn node_at(land: &ListLand, words: &[u64], at: u64) -> Node {
     if at == 0 {
         return Node::default();
     }
@@ -92,7 +92,7 @@ fn node_at(land: &ListLand, words: &[u64], at: u64) -> Node {
 }
 
 /// The number of pairs of a sound table whose base is below an address.
-fn pairs_below(land: &BlockLand, nodes: &[u64], address: u64) -> usize {
+pub(super) fn pairs_below(land: &BlockLand, nodes: &[u64], address: u64) -> usize {
     let (pairs, _) = nodes[..2 * land.ranges as usize].as_chunks::<2>();
     pairs.partition_point(|pair| pair[0] < address)
 }
@@ -109,17 +109,21 @@ struct Gap<'m> {
 }
 
 impl Gap<'_> {
-    /// Merges a range of the list into the table; false if there is no room.
-    fn put(&mut self, met: Node) -> bool {
+    /// Merges a range of the list into the table and answers as an insert; `apart` says that no byte is in both lands.
+    #[inline(always)]
+    fn put(&mut self, met: Node, apart: bool) -> u64 {
         while self.from != self.end && self.nodes[2 * self.from] < met.base {
             set_pair(self.nodes, self.to, self.nodes[2 * self.from], self.nodes[2 * self.from + 1]);
             self.to += 1;
             self.from += 1;
         }
+        if !apart && self.overlaps(met) {
+            return ANSWER_OVERLAP;
+        }
         let joins_below = self.to != 0 && self.nodes[2 * self.to - 1] == met.base;
         let joins_above = self.from != self.end && self.nodes[2 * self.from] == met.limit;
         if !joins_below && !joins_above && self.to == self.from {
-            return false;
+            return ANSWER_FULL;
         }
         let mut limit = met.limit;
         if joins_above {
@@ -131,7 +135,13 @@ impl Gap<'_> {
             self.to += 1;
         }
         self.nodes[2 * self.to - 1] = limit;
-        true
+        ANSWER_OK
+    }
+
+    /// Does a range overlap the last pair merged or the next one?
+    fn overlaps(&self, met: Node) -> bool {
+        (self.to != 0 && self.nodes[2 * self.to - 1] > met.base)
+            || (self.from != self.end && self.nodes[2 * self.from] < met.limit)
     }
 
     /// Closes the gap: the number of pairs.
@@ -145,18 +155,22 @@ impl Gap<'_> {
     }
 }
 
-/// Moves the list's ranges into the table until one has no room. The head's place there is i. Answers whether one
-/// moved.
-fn flush(pair: &mut Pair, words: &[u64], nodes: &mut [u64], i: usize) -> bool {
+/// Moves the list's ranges into the table until one is refused. The head's place there is i. Answers the refusal, or 0.
+#[inline(always)]
+pub(super) fn flush_apart(pair: &mut Pair, words: &[u64], nodes: &mut [u64], i: usize, apart: bool) -> u64 {
     let ranges = pair.block.ranges as usize;
     let shift = (nodes.len() / 2 - ranges).min(pair.list.ranges as usize);
     if shift != 0 {
         nodes.copy_within(2 * i..2 * ranges, 2 * (i + shift));
     }
     let mut gap = Gap { nodes, to: i, from: i + shift, end: ranges + shift };
-    let head = pair.list.head;
-    let mut met = node_at(&pair.list, words, head);
-    while met.base != 0 && gap.put(met) {
+    let mut stop = ANSWER_OK;
+    let mut met = node_at(&pair.list, words, pair.list.head);
+    while met.base != 0 {
+        stop = gap.put(met, apart);
+        if stop != ANSWER_OK {
+            break;
+        }
         pair.list.ranges -= 1;
         pair.list.bytes -= met.limit - met.base;
         pair.block.bytes += met.limit - met.base;
@@ -164,7 +178,7 @@ fn flush(pair: &mut Pair, words: &[u64], nodes: &mut [u64], i: usize) -> bool {
     }
     pair.list.head = met.base;
     pair.block.ranges = gap.close() as u64;
-    met.base != head
+    stop
 }
 
 /// Where a request stands in both lands.
@@ -207,7 +221,11 @@ pub fn pair_insert(mut pair: Pair, words: &mut [u64], nodes: &mut [u64], r: Rang
     if list_overlaps(below, above, r) || table_overlaps(&pair.block, nodes, i, r) {
         return no_change(pair, ANSWER_OVERLAP);
     }
-    if pair.list.head != 0 && flush(&mut pair, words, nodes, head) {
+    let before = pair.list.ranges;
+    if before != 0 {
+        flush_apart(&mut pair, words, nodes, head, true);
+    }
+    if pair.list.ranges != before {
         i = pairs_below(&pair.block, nodes, r.base);
         if pair.list.head == 0 || below.base < pair.list.head {
             below = Node::default();
@@ -329,6 +347,11 @@ impl Merge<'_> {
         self.pairs_while(|base, limit| limit.wrapping_sub(base) < size)?;
         Some(if self.pairs.is_empty() { Rest::Nowhere } else { Rest::Table(ranges - self.left()) })
     }
+}
+
+/// Reads both lands of a pair; none if one is not sound or they overlap.
+pub(super) fn judge(pair: &Pair, words: &[u64], nodes: &[u64]) -> Option<()> {
+    Merge::from_first(pair, words, nodes)?.finish(pair)
 }
 
 /// Where a find of this size comes to rest; none if a land is not sound or they overlap.
