@@ -12,6 +12,7 @@ use Rattle.model.specs.Marks.{Range}
 use Rattle.model.specs.Lists.{Apart, Aligned, total}
 use Rattle.model.specs.Layouts.{fault, holding}
 use Rattle.model.specs.Lands.{LandLaws}
+use Rattle.model.proofs.Outcomes.{read-whole}
 use Rattle.list_words.specs.Words.{soundWalk, walkFrom}
 use Rattle.list_words.specs.Laying.{head-of, lay}
 use Rattle.list_words.proofs.Laid.{Laid, length-lay, laid-lay, laid-host}
@@ -28,12 +29,7 @@ pub record Reads (h : ListLand) (ws : List ℕ) (rs : List Range) : Type 0 where
 
 pub reads : (h : ListLand) (ws : List ℕ) (rs : List Range) → readOf h ws ≡ holding rs → Reads h ws rs
 unfolding readOf
-reads h ws rs e =
-    by (setUp h ws)
-    (λ g. by (sound h ws)
-    (λ s. record { good = g; whole = s; same = let q : holding (walkOf h ws .met) ≡ holding rs = rw (g, s) at e in cc })
-    (λ s. let q : fault 6 ≡ holding rs = rw (g, s) at e in let z : _≡_ {A = ℕ} 0 1 = cc in absurd (omega arith)))
-    (λ g. let q : fault 5 ≡ holding rs = rw g at e in let z : _≡_ {A = ℕ} 0 1 = cc in absurd (omega arith))
+reads h ws rs e = let p = read-whole (setUp h ws) (sound h ws) (walkOf h ws .met) rs e in record { good = p .0; whole = p .1; same = p .2 }
 
 -- and the other way round: 5, 6, or the ranges met
 module _ (h : ListLand) (ws : List ℕ) where

@@ -10,24 +10,24 @@ use Rattle.model.specs.Marks.{Range}
 use Rattle.list_edits.specs.Chains.{Held, chainOf}
 use Rattle.list_words.specs.declared.Chain.{Chain}
 use Rattle.list_land.specs.Layout.{sound, closed}
-use Rattle.list_land.specs.Parts.{arenaIn, chainIn, closedWith, Sought}
+use Rattle.list_land.specs.Parts.{arenaIn, chainIn, closedWith, Looked}
 use Rattle.list_land.specs.declared.ListLand.{ListLand}
 use Rattle.list_land.proofs.Sound.{Fine, fine, placed}
 use Rattle.list_words.specs.declared.Spot.{Spot}
 
-pub sought-fine : (h : ListLand) (ws : List ℕ) (aim : Aim) (s : Spot) → Sought h ws aim s → Fine h ws
-sought-fine h ws aim s k = fine h ws (k .good) (k .whole)
+pub looked-fine : (h : ListLand) (ws : List ℕ) (aim : Aim) (s : Spot) → Looked h ws aim s → Fine h ws
+looked-fine h ws aim s k = fine h ws (k .good) (k .whole)
 
-pub sought-positive : (h : ListLand) (ws : List ℕ) (aim : Aim) (s : Spot) (a : Arena) → Sought h ws aim s → a ≡ arenaIn h → 0 < a .align .0
-sought-positive h ws aim s a k e = rw e (placed h ws (k .good) .positive)
+pub looked-positive : (h : ListLand) (ws : List ℕ) (aim : Aim) (s : Spot) (a : Arena) → Looked h ws aim s → a ≡ arenaIn h → 0 < a .align .0
+looked-positive h ws aim s a k e = rw e (placed h ws (k .good) .positive)
 
-pub sought-align : (h : ListLand) (ws : List ℕ) (aim : Aim) (s : Spot) → Sought h ws aim s → goodAlign (h .align .0) ≡ true
-sought-align h ws aim s k = placed h ws (k .good) .arena .align
+pub looked-align : (h : ListLand) (ws : List ℕ) (aim : Aim) (s : Spot) → Looked h ws aim s → goodAlign (h .align .0) ≡ true
+looked-align h ws aim s k = placed h ws (k .good) .arena .align
 
 -- the spot of the arena and the chain that the code passes on
-pub sought-held : (h : ListLand) (ws : List ℕ) (aim : Aim) (s : Spot) → Sought h ws aim s → (a : Arena) → a ≡ arenaIn h → (c : Chain) → c ≡ chainIn h → Held a ws c aim s
+pub looked-held : (h : ListLand) (ws : List ℕ) (aim : Aim) (s : Spot) → Looked h ws aim s → (a : Arena) → a ≡ arenaIn h → (c : Chain) → c ≡ chainIn h → Held a ws c aim s
 unfolding sound
-sought-held h ws aim s k a ea c ec = rw (ea, ec) (record { ready = placed h ws (k .good) .ready; whole = k .whole; kept = k .kept })
+looked-held h ws aim s k a ea c ec = rw (ea, ec) (record { ready = placed h ws (k .good) .ready; whole = k .whole; kept = k .kept })
 
 -- the next handle, from the chain of its ranges
 pub closes : (h : ListLand) (rs : List Range) (n : Chain) → n ≡ chainOf rs → (z : ListLand) → z ≡ closedWith h (n .head) (n .ranges) (n .bytes) → z ≡ closed h rs

@@ -1,5 +1,5 @@
 -- The ways out of the inner functions of the list land. Assumes nothing.
-use Prim.Native.Nat.{ℕ, _≤_}
+use Prim.Native.Nat.{ℕ, _≤_, _<_}
 use mathlib.Core.Bool.{true, false, cond}
 use mathlib.Core.List.{List, [], _∷_}
 use mathlib.Core.Path.{_≡_, sym, ap, ap₂, _∙_}
@@ -28,7 +28,7 @@ use Rattle.list_words.specs.declared.Spot.{Spot}
 use Rattle.list_words.specs.declared.Verdict.{Verdict}
 use Rattle.list_land.specs.Calls.{refusedBy, foundNone, newLand, openedOf}
 use Rattle.list_land.specs.Layout.{base, limit, align, setUp, walkOf, sound}
-use Rattle.list_land.specs.Parts.{arenaIn, chainIn, lookOf}
+use Rattle.list_land.specs.Parts.{arenaIn, chainIn, lookOf, Looked}
 use Rattle.list_land.specs.declared.ListLand.{ListLand}
 use Rattle.list_land.specs.declared.Look.{Look}
 use Rattle.list_land.proofs.Sound.{placed}
@@ -65,40 +65,53 @@ module _ (h : ListLand) (ws : List ℕ) (a : Arena) (ea : a ≡ arenaIn h) (x : 
 
 pub ruleset set-up-ways = (set-up-bad, set-up-order, set-up-good, set-up-short)
 
+-- A GOOD SET-UP
+module _ (h : ListLand) (ws : List ℕ) (r : SetUp) (e : r ≡ setUpOf (setUp h ws)) (f : r ≡ SetUp.Good) where
+  pub good-align : goodAlign (h .align .0) ≡ true
+  good-align = placed h ws (set-up-true (setUp h ws) r e f) .arena .align
+
+  module _ (a : Arena) (ea : a ≡ arenaIn h) where
+    pub good-positive : 0 < a .align .0
+    good-positive = rw ea (placed h ws (set-up-true (setUp h ws) r e f) .positive)
+
+    pub good-ready : Ready a (length ws)
+    good-ready = rw ea (placed h ws (set-up-true (setUp h ws) r e f) .ready)
+
+pub ruleset good-ways = (good-align, good-positive, good-ready)
+
 -- THE LOOK
 module _ (h : ListLand) (ws : List ℕ) (aim : Aim) (r : SetUp) (e : r ≡ setUpOf (setUp h ws)) where
   pub look-bad : r ≡ SetUp.Bad → Look.BadSetUp ≡ lookOf h ws aim
   unfolding lookOf
   look-bad f = rw (set-up-false (setUp h ws) r e f)
 
-  pub look-align : r ≡ SetUp.Good → goodAlign (h .align .0) ≡ true
-  look-align f = placed h ws (set-up-true (setUp h ws) r e f) .arena .align
-
   module _ (f : r ≡ SetUp.Good) (a : Arena) (ea : a ≡ arenaIn h) where
-    pub look-ready : Ready a (length ws)
-    look-ready = rw ea (placed h ws (set-up-true (setUp h ws) r e f) .ready)
-
     module _ (c : Chain) (ec : c ≡ chainIn h) (v : Verdict) (ev : v ≡ surveyOf a ws c aim) where
       seen : v ≡ cond (sound h ws) (Verdict.Sound (kept-of aim (walkOf h ws .met))) Verdict.Damaged
       unfolding surveyOf sound
       seen = ev ∙ ap₂ (λ (x : Arena) (y : Chain). surveyOf x ws y aim) ea ec
 
-      pub look-damaged : v ≡ Verdict.Damaged → Look.Damaged ≡ lookOf h ws aim
-      unfolding lookOf
-      look-damaged g =
+      pub survey-damaged : v ≡ Verdict.Damaged → sound h ws ≡ false
+      survey-damaged g =
           by (sound h ws)
           (λ t. let q : v ≡ Verdict.Sound (kept-of aim (walkOf h ws .met)) = rw t at seen in let z : _≡_ {A = ℕ} 0 1 = cc in absurd (omega arith))
-          (λ t. rw (set-up-true (setUp h ws) r e f, t))
+          (λ t. t)
+
+      pub survey-kept : (s : Spot) → v ≡ Verdict.Sound s → Looked h ws aim s
+      survey-kept s g =
+          by (sound h ws)
+          (λ t. let q : v ≡ Verdict.Sound (kept-of aim (walkOf h ws .met)) = rw t at seen in record { good = set-up-true (setUp h ws) r e f; whole = t; kept = cc })
+          (λ t. let q : v ≡ Verdict.Damaged = rw t at seen in let z : _≡_ {A = ℕ} 0 1 = cc in absurd (omega arith))
+
+      pub look-damaged : v ≡ Verdict.Damaged → Look.Damaged ≡ lookOf h ws aim
+      unfolding lookOf
+      look-damaged g = rw (set-up-true (setUp h ws) r e f, survey-damaged g)
 
       pub look-sound : (s : Spot) → v ≡ Verdict.Sound s → Look.Sound s ≡ lookOf h ws aim
       unfolding lookOf
-      look-sound s g =
-          by (sound h ws)
-          (λ t. let q : v ≡ Verdict.Sound (kept-of aim (walkOf h ws .met)) = rw t at seen in
-          let w : s ≡ kept-of aim (walkOf h ws .met) = cc in rw (set-up-true (setUp h ws) r e f, t) (ap (λ (x : Spot). Look.Sound x) w))
-          (λ t. let q : v ≡ Verdict.Damaged = rw t at seen in let z : _≡_ {A = ℕ} 0 1 = cc in absurd (omega arith))
+      look-sound s g = let k = survey-kept s g in rw (k .good, k .whole) (ap (λ (x : Spot). Look.Sound x) (k .kept))
 
-pub ruleset look-ways = (look-bad, look-align, look-ready, look-damaged, look-sound)
+pub ruleset look-ways = (good-align, good-ready, look-bad, look-damaged, look-sound)
 
 -- THE OPENING
 module _ (b l a : ℕ) (ws : List ℕ) (h : ListLand) (eh : h ≡ newLand b l a) (r : SetUp) (e : r ≡ setUpOf (setUp h ws)) where

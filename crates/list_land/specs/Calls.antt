@@ -8,7 +8,7 @@ use Rattle.units.specs.declared.Mode.{Mode}
 use Rattle.units.specs.declared.Range.{Range}
 use Rattle.units.specs.declared.Which.{Which}
 use Rattle.units.specs.declared.rules.SetUp.{SetUp}
-use Rattle.model.specs.Calls.{Outcome, insert, delete, find, walk}
+use Rattle.model.specs.Calls.{Call, Outcome, insert, delete, find, walk}
 use Rattle.model.specs.Layouts.{Done}
 use Rattle.model.specs.Lands.{land-call}
 use Rattle.model.specs.Marks.{struct}
@@ -21,18 +21,22 @@ use Rattle.list_land.specs.declared.Found.{Found}
 abbrev pub LandDone : Type 0
 LandDone = Done Outcome ListLand (List ℕ)
 
--- Insert and delete of a range, a find, the walk: the outcome, the next handle and the words.
-unfoldable pub inserted : ListLand → List ℕ → Range → LandDone
-inserted h ws y = land-call layout (insert (y .base .0) (y .limit .0)) h ws
+-- What every call gives: the outcome, the next handle and the words.
+unfoldable pub does : Call → ListLand → List ℕ → LandDone
+does c h ws = land-call layout c h ws
 
-unfoldable pub deleted : ListLand → List ℕ → Range → LandDone
-deleted h ws y = land-call layout (delete (y .base .0) (y .limit .0)) h ws
+-- Insert and delete of a range, a find, the walk.
+abbrev pub inserted : ListLand → List ℕ → Range → LandDone
+inserted h ws y = does (insert (y .base .0) (y .limit .0)) h ws
 
-unfoldable pub found : ListLand → List ℕ → Which → ℕ → Mode → LandDone
-found h ws w n mode = land-call layout (find w n mode) h ws
+abbrev pub deleted : ListLand → List ℕ → Range → LandDone
+deleted h ws y = does (delete (y .base .0) (y .limit .0)) h ws
 
-unfoldable pub walked : ListLand → List ℕ → ℕ → LandDone
-walked h ws x = land-call layout (walk x) h ws
+abbrev pub found : ListLand → List ℕ → Which → ℕ → Mode → LandDone
+found h ws w n mode = does (find w n mode) h ws
+
+abbrev pub walked : ListLand → List ℕ → ℕ → LandDone
+walked h ws x = does (walk x) h ws
 
 -- What a call hands back of them.
 abbrev pub changed : LandDone → Changed

@@ -1,8 +1,7 @@
 -- Contracts of the inner functions that every call uses. Assumes nothing.
 use Prim.Native.Nat.{ℕ}
-use mathlib.Core.Bool.{true, cond}
+use mathlib.Core.Bool.{cond}
 use mathlib.Core.List.{List}
-use mathlib.Core.Path.{_≡_}
 use Rattle.units.specs.Rules.{findSize}
 use Rattle.units.specs.declared.Addr.{Addr}
 use Rattle.units.specs.declared.Range.{Range}
@@ -10,6 +9,7 @@ use Rattle.units.specs.declared.Size.{Size}
 use Rattle.units.specs.declared.Which.{Which}
 use Rattle.units.specs.declared.rules.Arena.{Arena}
 use Rattle.units.specs.declared.aims.Aim.{Aim}
+use Rattle.model.specs.Looks as looks
 use Rattle.list_words.specs.declared.Chain.{Chain}
 use Rattle.list_words.specs.declared.Spot.{Spot}
 use Rattle.list_words.specs.Surveys.{kept-of}
@@ -38,10 +38,8 @@ abbrev pub closedWith : ListLand → Addr → ℕ → Size → ListLand
 closedWith h head n s = record { base = h .base; limit = h .limit; align = h .align; head = head; ranges = n; bytes = s }
 
 -- A spot that an aim keeps of a sound list.
-pub record Sought (h : ListLand) (ws : List ℕ) (aim : Aim) (s : Spot) : Type 0 where
-  pub good : setUp h ws ≡ true
-  pub whole : sound h ws ≡ true
-  pub kept : s ≡ kept-of aim (walkOf h ws .met)
+abbrev pub Looked : ListLand → List ℕ → Aim → Spot → Type 0
+Looked h ws aim s = looks.Looked (setUp h ws) (sound h ws) (kept-of aim (walkOf h ws .met)) s
 
 abbrev pub reachBase : Range → Aim
 reachBase y = Aim.Reach (y .base)

@@ -10,12 +10,12 @@ use units::Range;
 use units::RangeCheck;
 ghost use mathlib.Core.Path.{_≡_};
 ghost use Rattle.list_land.specs.Calls.{changed, deleted};
-ghost use Rattle.list_land.specs.Parts.{Sought, reachLimit};
+ghost use Rattle.list_land.specs.Parts.{Looked, reachLimit};
 
 impl ListLand {
     // Delete from a sound list, at the first range that reaches the limit of the request.
     fn delete_at(self, words: &mut [u64], range: Range, spot: Spot) -> Changed
-        requires { ⌜ Sought self (now words) (reachLimit range) spot ⌝ }
+        requires { ⌜ Looked self (now words) (reachLimit range) spot ⌝ }
         ensures { λ r. ⌜ (r ≡ changed (deleted self (now (words .entry)) range)) × (now (words .exit) ≡ deleted self (now (words .entry)) range .words) ⌝ }
     {
         let arena = self.good_arena();

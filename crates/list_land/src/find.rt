@@ -1,17 +1,21 @@
 // The three finds: the range chosen, the part of it that is found, and its removal.
 use crate::Found;
 use crate::ListLand;
-use crate::Look;
 use list_words::Spot;
+use list_words::Verdict;
 use units::Aim;
 use units::Mode;
 use units::Range;
+use units::SetUp;
 use units::Size;
 use units::SizeCheck;
 use units::Which;
+ghost use mathlib.Core.Bool.{true};
 ghost use mathlib.Core.Path.{_≡_};
+ghost use Rattle.model.specs.Calls.{good-size};
 ghost use Rattle.list_land.specs.Calls.{foundNone, foundOf, found};
-ghost use Rattle.list_land.specs.Parts.{Sought, findAim};
+ghost use Rattle.list_land.specs.Layout.{arenaOf};
+ghost use Rattle.list_land.specs.Parts.{Looked, findAim};
 
 fn none_found(land: ListLand, answer: u64) -> Found
     ensures { λ r. ⌜ r ≡ foundNone land answer ⌝ }
@@ -25,20 +29,18 @@ fn none_found(land: ListLand, answer: u64) -> Found
 }
 
 impl ListLand {
-    // A find in a sound list, at the range chosen.
+    // A find of a good size in a sound list, at the range chosen.
     fn find_at(self, words: &mut [u64], which: Which, size: Size, mode: Mode, spot: Spot) -> Found
-        requires { ⌜ Sought self (now words) (findAim self which size) spot ⌝ }
+        requires { ⌜ Looked self (now words) (findAim self which size) spot ⌝ }
+        requires { ⌜ good-size (arenaOf self) which (size .0) ≡ true ⌝ }
         ensures { λ r. ⌜ (r ≡ foundOf (found self (now (words .entry)) which (size .0) mode)) × (now (words .exit) ≡ found self (now (words .entry)) which (size .0) mode .words) ⌝ }
     {
-        let arena = self.good_arena();
-        let SizeCheck::Good = arena.check_find(which, size) else {
-            return none_found(self, 4);
-        };
         let here = spot.here;
         if here.base.is_zero() {
             return none_found(self, 2);
         }
-        let taken = finds::part(which, mode, arena.find_size(size), here);
+        let arena = self.good_arena();
+        let part = finds::part(which, mode, arena.find_size(size), here);
         if let Mode::None = mode {
             return Found {
                 land: self,
@@ -47,27 +49,33 @@ impl ListLand {
                 old: here,
             };
         }
-        let chain = list_edits::cut_at(arena, words, self.chain(), spot, taken);
+        let chain = list_edits::cut_at(arena, words, self.chain(), spot, part);
         Found {
             land: self.close(chain.head, chain.ranges, chain.bytes),
             answer: 0,
-            range: taken,
+            range: part,
             old: here,
         }
     }
 
-    fn find(self, words: &mut [u64], which: Which, size: Size, mode: Mode) -> Found
+    // The find that `which` names: the set-up, the size, the one walk, and then 6, 4, 2 and the removal.
+    pub fn find(self, words: &mut [u64], which: Which, size: Size, mode: Mode) -> Found
         ensures { λ r. ⌜ (r ≡ foundOf (found self (now (words .entry)) which (size .0) mode)) × (now (words .exit) ≡ found self (now (words .entry)) which (size .0) mode .words) ⌝ }
     {
-        let wanted = self.arena().find_size(size);
-        match self.look(words, Aim::Find(which, wanted)) {
-            Look::BadSetUp => none_found(self, 5),
-            Look::Damaged => none_found(self, 6),
-            Look::Sound(s) => {
-                let spot = s;
-                self.find_at(words, which, size, mode, spot)
-            }
-        }
+        let SetUp::Good = self.set_up(words) else {
+            return none_found(self, 5);
+        };
+        let arena = self.good_arena();
+        let check = arena.check_find(which, size);
+        let aim = Aim::of_find(check, which, arena.find_size(size));
+        let Verdict::Sound(s) = list_words::survey(arena, words, self.chain(), aim) else {
+            return none_found(self, 6);
+        };
+        let spot = s;
+        let SizeCheck::Good = check else {
+            return none_found(self, 4);
+        };
+        self.find_at(words, which, size, mode, spot)
     }
 
     // The isolated range of at least the size with the lowest base.

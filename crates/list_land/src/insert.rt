@@ -10,12 +10,12 @@ use units::Range;
 use units::RangeCheck;
 ghost use mathlib.Core.Path.{_≡_};
 ghost use Rattle.list_land.specs.Calls.{changed, inserted};
-ghost use Rattle.list_land.specs.Parts.{Sought, reachBase};
+ghost use Rattle.list_land.specs.Parts.{Looked, reachBase};
 
 impl ListLand {
     // Insert in a sound list, at the first range that reaches the base of the request.
     fn insert_at(self, words: &mut [u64], range: Range, spot: Spot) -> Changed
-        requires { ⌜ Sought self (now words) (reachBase range) spot ⌝ }
+        requires { ⌜ Looked self (now words) (reachBase range) spot ⌝ }
         ensures { λ r. ⌜ (r ≡ changed (inserted self (now (words .entry)) range)) × (now (words .exit) ≡ inserted self (now (words .entry)) range .words) ⌝ }
     {
         let arena = self.good_arena();

@@ -1,6 +1,8 @@
 -- `ListLand::insert` meets its contract: 5, 6, and then the place. Assumes nothing.
-use borrow.Author.Needs.{needs}
-use Rattle.list_land.proofs.Answers.{saw-sound, is-insert, refuse-change, answers-5, answers-6}
+use Rattle.model.specs.Calls.{insert}
+use Rattle.model.proofs.EditAnswers.{edit-5, edit-6}
+use Rattle.model.proofs.Looking.{saw}
+use Rattle.list_land.proofs.Land.{list-land}
 use borrow.Author.Needs.{needs}
 use Rattle.list_land.proofs.ListLand.insert.Statement.{statement}
 use Rattle.list_land.proofs.ListLand.insert.Tie as tie
@@ -24,27 +26,23 @@ enum-known-s : tie.Need-enum-known-s
 enum-known-s c = search needs
 
 insert-at-requires : tie.Need-insert-at-requires
-insert-at-requires c κs = search saw-sound
+insert-at-requires c κs = search (saw list-land)
 
 same-length : tie.Need-same-length
 same-length c = search needs
 
 returns : tie.Need-returns
 returns c =
-    let entry = c .before .before .before .before .before .before .before in
-    refuse-change _ _ _ 5
-    (answers-5 _ _ _ _ (c .before .before .before .look .ensures) _ _ (is-insert _ _ (entry .args .range)) (c .before .enum-told .given .1)) _
-    (c .refused .ensures)
+    let y = c .before .before .before .before .before .before .before .args .range in
+    edit-5 list-land _ _ _ _ (c .before .before .before .look .ensures) (insert (y .base .0) (y .limit .0)) (c .before .enum-told .given .1) _ (c .refused .ensures)
 
 same-length-2 : tie.Need-same-length-2
 same-length-2 c = search needs
 
 returns-2 : tie.Need-returns-2
 returns-2 c =
-    let entry = c .before .before .before .before .before .before .before in
-    refuse-change _ _ _ 6
-    (answers-6 _ _ _ _ (c .before .before .before .look .ensures) _ _ (is-insert _ _ (entry .args .range)) (c .before .enum-told2 .given .1)) _
-    (c .refused2 .ensures)
+    let y = c .before .before .before .before .before .before .before .args .range in
+    edit-6 list-land _ _ _ _ (c .before .before .before .look .ensures) (insert (y .base .0) (y .limit .0)) (c .before .enum-told2 .given .1) _ (c .refused2 .ensures)
 
 same-length-3 : tie.Need-same-length-3
 same-length-3 c = search needs

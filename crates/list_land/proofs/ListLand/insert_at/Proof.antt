@@ -3,10 +3,12 @@ use mathlib.Core.Bool.{true}
 use mathlib.Core.Path.{_≡_}
 use borrow.Author.Needs.{needs}
 use Rattle.model.proofs.Checks.{range-bad, range-good}
+use Rattle.model.proofs.EditAnswers.{edit-4, insert-edits}
 use Rattle.model.specs.Calls.{good-range}
 use Rattle.list_land.specs.Layout.{arenaOf}
-use Rattle.list_land.proofs.EditAnswers.{insert-4, insert-asks, insert-1, insert-0}
-use Rattle.list_land.proofs.Requests.{sought-positive, sought-align}
+use Rattle.list_land.proofs.Land.{list-land}
+use Rattle.list_land.proofs.EditAnswers.{insert-asks, insert-1, insert-0}
+use Rattle.list_land.proofs.Requests.{looked-positive, looked-align}
 use Rattle.list_land.proofs.ListLand.insert_at.Statement.{statement}
 use Rattle.list_land.proofs.ListLand.insert_at.Tie as tie
 
@@ -17,10 +19,10 @@ good k =
     range-good (arenaOf (entry .args .self)) _ (k .before .before .before .good-arena .ensures) (entry .args .range) _ (k .before .before .check-range .ensures) (k .enum-told .given .1)
 
 good-arena-requires : tie.Need-good-arena-requires
-good-arena-requires c κs = search sought-align
+good-arena-requires c κs = search looked-align
 
 check-range-requires : tie.Need-check-range-requires
-check-range-requires c κs = search sought-positive
+check-range-requires c κs = search looked-positive
 
 enum-told : tie.Need-enum-told
 enum-told c = search needs
@@ -31,7 +33,8 @@ refused-requires c κs = search needs
 returns : tie.Need-returns
 returns c =
     let entry = c .before .before .before .before .before in
-    insert-4 _ _ (entry .args .range) _ (entry .pre)
+    let y = entry .args .range in
+    edit-4 list-land _ _ _ _ (entry .pre) _ (insert-edits _ _ (y .base .0) (y .limit .0))
     (range-bad (arenaOf (entry .args .self)) _ (c .before .before .before .good-arena .ensures) (entry .args .range) _ (c .before .before .check-range .ensures) (c .before .match .keys2))
     _ (c .refused .ensures)
 

@@ -1,5 +1,6 @@
 -- `ListLand::walk` meets its contract. Assumes nothing.
-use Rattle.list_land.proofs.WalkAnswers.{walk-ways}
+use Rattle.model.proofs.WalkAnswers.{walk-words, walk-5, walk-6, walk-2, walk-0}
+use Rattle.list_land.proofs.Land.{list-land}
 use borrow.Author.Needs.{needs}
 use Rattle.list_land.proofs.ListLand.walk.Statement.{statement}
 use Rattle.list_land.proofs.ListLand.walk.Tie as tie
@@ -29,16 +30,16 @@ refused-requires-3 : tie.Need-refused-requires-3
 refused-requires-3 c κs = search needs
 
 returns : tie.Need-returns
-returns c = search walk-ways
+returns c = search (walk-words list-land, walk-5 list-land, walk-6 list-land, walk-2 list-land, walk-0 list-land)
 
 returns-2 : tie.Need-returns-2
-returns-2 c = search walk-ways
+returns-2 c = search (walk-words list-land, walk-5 list-land, walk-6 list-land, walk-2 list-land, walk-0 list-land)
 
 returns-3 : tie.Need-returns-3
-returns-3 c = search walk-ways
+returns-3 c = search (walk-words list-land, walk-5 list-land, walk-6 list-land, walk-2 list-land, walk-0 list-land)
 
 returns-4 : tie.Need-returns-4
-returns-4 c = search walk-ways
+returns-4 c = search (walk-words list-land, walk-5 list-land, walk-6 list-land, walk-2 list-land, walk-0 list-land)
 
 pub walk-spec : {M : Type 1} → statement M
 walk-spec =

@@ -1,0 +1,79 @@
+-- The list land, as the laws on answers of `model` take it. Assumes nothing.
+use Prim.Native.Nat.{ℕ}
+use mathlib.Core.Bool.{cond}
+use mathlib.Core.List.{List}
+use mathlib.Core.Option.{Option, none, some}
+use mathlib.Core.Path.{_≡_, refl}
+use Rattle.units.specs.declared.aims.Aim.{Aim}
+use Rattle.model.specs.Calls.{Call}
+use Rattle.model.specs.Lands.{land-call}
+use Rattle.model.specs.Layouts.{reading}
+use Rattle.model.specs.Marks.{Range}
+use Rattle.model.specs.Picks.{here-of}
+use Rattle.model.proofs.Aiming.{pick-by}
+use Rattle.model.proofs.Land.{Land}
+use Rattle.list_words.specs.Surveys.{kept-of}
+use Rattle.list_words.specs.declared.Spot.{Spot}
+use Rattle.list_words.proofs.Keeping.{Placed, kept-placed}
+use Rattle.list_words.proofs.Laid.{lay-laid}
+use Rattle.list_land.specs.Calls.{does}
+use Rattle.list_land.specs.Layout.{base, setUp, walkOf, sound, readOf, layout}
+use Rattle.list_land.specs.Parts.{arenaIn, lookNumber, lookOf}
+use Rattle.list_land.specs.declared.Changed.{Changed}
+use Rattle.list_land.specs.declared.Found.{Found}
+use Rattle.list_land.specs.declared.ListLand.{ListLand}
+use Rattle.list_land.specs.declared.Look.{Look}
+use Rattle.list_land.proofs.LayoutLaws.{list-laws, handle-back}
+use Rattle.list_land.proofs.Sound.{placed, fine}
+
+pub is-call : (c : Call) (h : ListLand) (ws : List ℕ) → does c h ws ≡ land-call layout c h ws
+unfolding does
+is-call c h ws = refl
+
+pub reads-as : (h : ListLand) (ws : List ℕ) → readOf h ws ≡ reading (setUp h ws) (sound h ws) (walkOf h ws .met)
+unfolding readOf
+reads-as h ws = refl
+
+pub looks : (h : ListLand) (ws : List ℕ) (aim : Aim) →
+    lookOf h ws aim ≡ cond (setUp h ws) (cond (sound h ws) (Look.Sound (kept-of aim (walkOf h ws .met))) Look.Damaged) Look.BadSetUp
+unfolding lookOf
+looks h ws aim = refl
+
+pub placed-here : (rs : List Range) (o : Option Range) (s : Spot) → Placed rs o s → s .here ≡ here-of o
+placed-here rs none s p = p .here
+placed-here rs (some q) s p = p .here
+
+pub same : (s t : Spot) → Look.Sound s ≡ Look.Sound t → s ≡ t
+same s t e = cc
+
+abbrev pub list-land : Land ListLand Look Spot Changed Found
+list-land = record {
+  layout = layout;
+  set-up = setUp;
+  sound = sound;
+  ranges = λ h ws. walkOf h ws .met;
+  arena-in = arenaIn;
+  bad = Look.BadSetUp;
+  damaged = Look.Damaged;
+  whole = λ s. Look.Sound s;
+  number = lookNumber;
+  look = lookOf;
+  keep = kept-of;
+  here = λ s. s .here;
+  change = λ h n r. record { land = h; answer = n; range = r };
+  find-made = λ h n r o. record { land = h; answer = n; range = r; old = o };
+  does = does;
+  is-call = is-call;
+  laws = list-laws;
+  reads = reads-as;
+  arena-is = λ h ws. refl;
+  above = λ h ws g. placed h ws g .arena .above;
+  number-bad = refl;
+  number-damaged = refl;
+  number-whole = λ s. refl;
+  same = same;
+  looks = looks;
+  keeps = λ aim lo hi rs z a. placed-here rs (pick-by aim none rs) (kept-of aim rs) (kept-placed aim lo hi rs z a);
+  handle-back = λ h ws g s. handle-back h ws (walkOf h ws .met) (fine h ws g s) refl;
+  words-back = λ h ws g s. lay-laid (base h) (walkOf h ws .met) ws (fine h ws g s .laid);
+}

@@ -1,0 +1,159 @@
+-- The ways out of a find of a land: 5, 6, 4, 2, the range as it stands, and a part of it taken out. Assumes nothing.
+use Prim.Native.Nat.{ℕ, _+_, _≤_}
+use mathlib.Core.Bool.{Bool, true, false}
+use mathlib.Core.List.{List, [], _∷_}
+use mathlib.Core.Option.{Option, none, some}
+use mathlib.Core.Path.{_≡_, refl, sym, ap, ap₂, _∙_}
+use native.Mathlib.Omega.{arith}
+use lib.Dec.{eqb}
+use lib.ListN.{length}
+use types.Run.{OneOf}
+use borrow.Author.Tests.{leb-true, le-leb}
+use denote.Enum.Declared.{tagOf}
+use Rattle.units.specs.Aims.{none-range, findAim}
+use Rattle.units.specs.Rules.{findCheck, findSize, setUpOf}
+use Rattle.units.specs.declared.Mode.{Mode}
+use Rattle.units.specs.declared.Range as units
+use Rattle.units.specs.declared.Size.{Size}
+use Rattle.units.specs.declared.Which.{Which}
+use Rattle.units.specs.declared.aims.Aim.{Aim}
+use Rattle.units.specs.declared.rules.Arena.{Arena}
+use Rattle.units.specs.declared.rules.SetUp.{SetUp}
+use Rattle.units.specs.declared.rules.SizeCheck.{SizeCheck}
+use Rattle.units.proofs.Cases.{set-up-false}
+use Rattle.units.proofs.Mode as mode-type
+use Rattle.units.proofs.rules.SizeCheck as size-type
+use Rattle.model.specs.Calls.{Call, find, good-size, find-size}
+use Rattle.model.specs.Lists.{delete-from}
+use Rattle.model.specs.Marks.{Range, struct, plain}
+use Rattle.model.specs.Picks.{here-of}
+use Rattle.model.specs.Steps.{choose, part, fits}
+use Rattle.model.proofs.Aiming.{by-find}
+use Rattle.model.proofs.Bytes.{mem-proper}
+use Rattle.model.proofs.Checks.{size-bad, size-good}
+use Rattle.model.proofs.Choosing.{choose-mem}
+use Rattle.model.proofs.Chosen.{Choice, none-chosen, some-chosen}
+use Rattle.model.proofs.Counting.{cut-end}
+use Rattle.model.proofs.Finding.{find-none, find-takes}
+use Rattle.model.proofs.Land.{Land}
+use Rattle.model.proofs.Looking.{Kept, Finds, bad-is-5, damaged-is-6, refused-find, fine, is-kept, mem-above, step-refused, done-find}
+use Rattle.model.proofs.Parts.{Takes, mem-stands, part-takes}
+use Rattle.model.proofs.Requests.{find-size-rules, size-refused}
+
+fits-fewer : (o : Option ℕ) (m n : ℕ) → m ≤ n → fits o n ≡ true → fits o m ≡ true
+fits-fewer none m n k e = refl
+fits-fewer (some c) m n k e = le-leb m c (let u = leb-true n c e in omega arith)
+
+module _ {H L S C F : Type 0} (I : Land H L S C F) (h : H) (ws : List ℕ) where
+  -- the aim of a find of a good size
+  abbrev pub find-aim : Which → Size → Aim
+  find-aim w n = Aim.Find w (record { 0 = find-size (I .layout .arena h ws) (n .0) })
+
+  module _ (c : Call) where
+    pub find-5 : (r : SetUp) → r ≡ setUpOf (I .set-up h ws) → r ≡ SetUp.Bad → (v : F) → v ≡ I .find-made h 5 none-range none-range → Finds I v ws (I .does c h ws)
+    find-5 r e f v k = refused-find I h ws c 5 (bad-is-5 I h ws c (set-up-false (I .set-up h ws) r e f)) v k ws refl
+
+    pub find-6 : I .set-up h ws ≡ true → I .sound h ws ≡ false → (v : F) → v ≡ I .find-made h 6 none-range none-range → Finds I v ws (I .does c h ws)
+    find-6 g s v k = refused-find I h ws c 6 (damaged-is-6 I h ws c g s) v k ws refl
+
+  -- the size that the code works with is the one that the definition names
+  size-is : (n : Size) (a : Arena) → a ≡ I .arena-in h → (m : Size) → m .0 ≡ findSize (a .align .0) (n .0) → m .0 ≡ find-size (I .layout .arena h ws) (n .0)
+  size-is n a ea m em = em ∙ ap (λ (x : Arena). findSize (x .align .0) (n .0)) (ea ∙ I .arena-is h ws)
+
+  -- A SOUND LAND, THE SIZE CHECKED
+  module _ (w : Which) (n : Size) (a : Arena) (ea : a ≡ I .arena-in h) (r : SizeCheck) (er : r ≡ findCheck w (a .base .0) (a .limit .0) (a .align .0) (n .0))
+      (aim : Aim) (s : S) (k : Kept I h ws aim s) where
+    pub find-4 : OneOf (1 ∷ 2 ∷ []) (tagOf size-type.the-type r) → (mode : Mode) (v : F) → v ≡ I .find-made h 4 none-range none-range →
+        Finds I v ws (I .does (find w (n .0) mode) h ws)
+    find-4 t mode v e =
+        let b = I .layout .arena h ws in
+        let z = size-refused b w (n .0) (size-bad b a (ea ∙ I .arena-is h ws) w (n .0) r er t) in
+        refused-find I h ws (find w (n .0) mode) 4 (step-refused I h ws aim s k (find w (n .0) mode) 4 refl (rw z)) v e ws refl
+
+    pub find-ready : r ≡ SizeCheck.Good → (m : Size) → m .0 ≡ findSize (a .align .0) (n .0) → aim ≡ findAim r w m →
+        Kept I h ws (find-aim w n) s × (good-size (I .layout .arena h ws) w (n .0) ≡ true)
+    find-ready g m em f =
+        let e : aim ≡ find-aim w n = f ∙ ap (λ (x : SizeCheck). findAim x w m) g ∙ ap (λ (x : ℕ). Aim.Find w (record { 0 = x })) (size-is n a ea m em) in
+        (rw e at k, size-good (I .layout .arena h ws) a (ea ∙ I .arena-is h ws) w (n .0) r er g)
+
+  -- A FIND OF A GOOD SIZE, AT WHAT WAS KEPT
+  module _ (w : Which) (n : Size) (mode : Mode) (s : S) (k : Kept I h ws (find-aim w n) s) (g : good-size (I .layout .arena h ws) w (n .0) ≡ true)
+      (t : Bool) (et : t ≡ eqb (I .here s .base .0) 0) where
+    abbrev rs : List Range
+    rs = I .ranges h ws
+
+    abbrev want : ℕ
+    want = find-size (I .layout .arena h ws) (n .0)
+
+    abbrev aim : Aim
+    aim = find-aim w n
+
+    chosen : I .here s ≡ here-of (choose w (find-size (I .layout .arena h ws) (n .0)) (I .ranges h ws))
+    chosen =
+        is-kept I h ws aim s k
+        ∙ ap here-of (by-find (record { 0 = want }) w (I .layout .arena h ws .base) (I .layout .arena h ws .limit) rs (I .above h ws (k .good)) (fine I h ws aim s k .canon .apart))
+
+    pub find-2 : t ≡ true → (v : F) → v ≡ I .find-made h 2 none-range none-range → Finds I v ws (I .does (find w (n .0) mode) h ws)
+    find-2 f v e =
+        let o = none-chosen (I .here s) (choose w want rs) chosen (λ q p. mem-above I h ws aim s k q (choose-mem w want rs q p .0)) (sym et ∙ f) in
+        refused-find I h ws (find w (n .0) mode) 2 (step-refused I h ws aim s k (find w (n .0) mode) 2 refl (rw (g, o))) v e ws refl
+
+    module _ (f : t ≡ false) where
+      pub choice : Choice (choose w (find-size (I .layout .arena h ws) (n .0)) (I .ranges h ws)) (I .here s)
+      choice = some-chosen (I .here s) (choose w want rs) chosen (sym et ∙ f)
+
+      abbrev q : Range
+      q = choice .range
+
+      module _ (a : Arena) (ea : a ≡ I .arena-in h) (m : Size) (em : m .0 ≡ findSize (a .align .0) (n .0)) where
+        -- the range is as long
+        pub find-long : I .here s .base .0 + m .0 ≤ I .here s .limit .0
+        find-long =
+            let e = size-is n a ea m em in
+            let c = choose-mem w want rs q (choice .is) in
+            let p = mem-proper (I .layout .arena h ws .base) (I .layout .arena h ws .limit) rs q (fine I h ws aim s k .canon .apart) (c .0) in
+            let u = c .1 in
+            rw (choice .here) (omega arith)
+
+        -- a part of it is taken out
+        module _ (o : OneOf (1 ∷ 2 ∷ 3 ∷ []) (tagOf mode-type.the-type mode)) (y : units.Range) (ey : y ≡ struct (part w mode (m .0) (plain (I .here s)))) where
+          abbrev p : Range
+          p = part w mode want q
+
+          is-part : y ≡ struct p
+          is-part = ey ∙ ap₂ (λ (x : ℕ) (v : units.Range). struct (part w mode x (plain v))) (size-is n a ea m em) (choice .here)
+
+          pub find-part : Takes (I .layout .arena h ws .align) (I .ranges h ws) (plain (I .here s)) (plain y)
+          find-part =
+              let c = choose-mem w want rs q (choice .is) in
+              let d = fine I h ws aim s k .canon in
+              let t : Takes (I .layout .arena h ws .align) rs q p =
+              part-takes (I .layout .arena h ws) w mode want rs q
+              (mem-stands (I .layout .arena h ws .align) (I .layout .arena h ws .base) (I .layout .arena h ws .limit) rs q (d .apart) (d .aligned) (c .0)) (c .1)
+              (find-size-rules (I .layout .arena h ws) w (n .0) g) in
+              rw (is-part, choice .here) t
+
+          abbrev less : List Range
+          less = delete-from (y .base .0) (y .limit .0) (I .ranges h ws)
+
+          -- no range more is left, so there is room
+          pub find-fewer : length less ≤ length (I .ranges h ws)
+          find-fewer =
+              let t : Takes (I .layout .arena h ws .align) rs q (plain y) = rw (choice .here) at find-part in
+              cut-end (I .layout .arena h ws .base) (I .layout .arena h ws .limit) rs q (y .base .0) (y .limit .0) (fine I h ws aim s k .canon .apart)
+              (choose-mem w want rs q (choice .is) .0) (t .low) (t .proper) (t .high) (t .at-end)
+
+          pub find-0 : (z : H) → z ≡ I .layout .close h less → (vs : List ℕ) → vs ≡ I .layout .words h ws less →
+              Finds I (I .find-made z 0 y (I .here s)) vs (I .does (find w (n .0) mode) h ws)
+          find-0 z ez vs ev =
+              let u = fits-fewer (I .layout .arena h ws .room) (length less) (length rs) find-fewer (fine I h ws aim s k .room) in
+              done-find I h ws aim s k (find w (n .0) mode) p q (delete-from (p .base) (p .limit) rs)
+              (find-takes (I .layout .arena h ws) w (n .0) mode rs q g (choice .is) o (rw is-part at u))
+              z (rw is-part at ez) y (I .here s) is-part (choice .here) vs (rw is-part at ev)
+
+      -- nothing is removed
+      pub find-kept : mode ≡ Mode.None → Finds I (I .find-made h 0 (I .here s) (I .here s)) ws (I .does (find w (n .0) mode) h ws)
+      find-kept m =
+          done-find I h ws aim s k (find w (n .0) mode) q q rs
+          (find-none (I .layout .arena h ws) w (n .0) mode rs q g (choice .is) m (fine I h ws aim s k .room))
+          h (sym (I .handle-back h ws (k .good) (k .whole))) (I .here s) (I .here s) (choice .here) (choice .here) ws (sym (I .words-back h ws (k .good) (k .whole)))
