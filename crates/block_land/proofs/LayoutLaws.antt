@@ -11,6 +11,7 @@ use Rattle.model.specs.Marks.{Range}
 use Rattle.model.specs.Lists.{Apart, Aligned, total}
 use Rattle.model.specs.Layouts.{fault, holding}
 use Rattle.model.specs.Lands.{LandLaws}
+use Rattle.model.proofs.Outcomes.{read-whole}
 use Rattle.block_words.specs.Words.{capacity, pairs, clear, soundTable, fill}
 use Rattle.block_words.proofs.Filling.{length-fill, pairs-fill, clear-fill, fill-pairs}
 use Rattle.block_words.proofs.Canonical.{apart-canonical}
@@ -26,23 +27,10 @@ pub record Reads (h : BlockLand) (ws : List ℕ) (rs : List Range) : Type 0 wher
 
 pub reads : (h : BlockLand) (ws : List ℕ) (rs : List Range) → readOf h ws ≡ holding rs → Reads h ws rs
 unfolding readOf
-reads h ws rs e =
-    by (setUp h ws)
-    (λ g. by (sound h ws)
-    (λ s. record { good = g; whole = s; same = let q : holding (tableOf h ws) ≡ holding rs = rw (g, s) at e in cc })
-    (λ s. let q : fault 6 ≡ holding rs = rw (g, s) at e in let z : _≡_ {A = ℕ} 0 1 = cc in absurd (omega arith)))
-    (λ g. let q : fault 5 ≡ holding rs = rw g at e in let z : _≡_ {A = ℕ} 0 1 = cc in absurd (omega arith))
+reads h ws rs e = let p = read-whole (setUp h ws) (sound h ws) (tableOf h ws) rs e in record { good = p .0; whole = p .1; same = p .2 }
 
--- and the other way round: 5, 6, or the ranges of the table
+-- and the other way round
 module _ (h : BlockLand) (ws : List ℕ) where
-  pub reads-5 : setUp h ws ≡ false → readOf h ws ≡ fault 5
-  unfolding readOf
-  reads-5 g = rw g
-
-  pub reads-6 : setUp h ws ≡ true → sound h ws ≡ false → readOf h ws ≡ fault 6
-  unfolding readOf
-  reads-6 g s = rw (g, s)
-
   pub held : setUp h ws ≡ true → sound h ws ≡ true → readOf h ws ≡ holding (tableOf h ws)
   unfolding readOf
   held g s = rw (g, s)

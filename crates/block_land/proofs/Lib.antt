@@ -1,10 +1,9 @@
 pub mod Sound
 pub mod LayoutLaws
+pub mod Land
 pub mod Ways
-pub mod Answers
+pub mod Requests
 pub mod EditAnswers
-pub mod Chosen
 pub mod FindAnswers
-pub mod WalkAnswers
 pub mod RightMet
 pub mod DemandMet

@@ -8,7 +8,7 @@ use lib.ListN.{length}
 use types.Run.{OneOf}
 use denote.Enum.Declared.{tagOf}
 use borrow.Author.Tests.{le-leb, lt-leb}
-use Rattle.units.specs.Rules.{arenaCheck, goodArena, setUpOf}
+use Rattle.units.specs.Rules.{goodAlign, arenaCheck, goodArena, setUpOf}
 use Rattle.units.specs.Words.{rangeOf}
 use Rattle.units.specs.declared.Addr.{Addr}
 use Rattle.units.specs.declared.Align.{Align}
@@ -28,7 +28,7 @@ use Rattle.block_words.specs.Words.{fill}
 use Rattle.block_words.specs.declared.Verdict.{Verdict}
 use Rattle.block_land.specs.Calls.{refusedBy, foundNone, newLand, openedOf, openedWords}
 use Rattle.block_land.specs.Layout.{base, limit, align, lent, setUp, sound, tableOf}
-use Rattle.block_land.specs.Parts.{arenaIn, lookOf}
+use Rattle.block_land.specs.Parts.{arenaIn, lookOf, Looked}
 use Rattle.block_land.specs.declared.BlockLand.{BlockLand}
 use Rattle.block_land.specs.declared.Look.{Look}
 use Rattle.block_land.proofs.Sound.{placed}
@@ -68,37 +68,52 @@ lent-good ws k = rw (le-leb (length ws) 2097152 k)
 pub lent-long : (ws : List ℕ) → 2097152 < length ws → SetUp.Bad ≡ setUpOf (lent ws)
 lent-long ws k = rw (lt-leb (length ws) 2097152 k)
 
--- THE LOOK
-pub look-ready : (h : BlockLand) (ws : List ℕ) (r : SetUp) → r ≡ setUpOf (setUp h ws) → r ≡ SetUp.Good → (a : Arena) → a ≡ arenaIn h → Ready a
-look-ready h ws r e f a ea = rw ea (placed h ws (set-up-true (setUp h ws) r e f) .check)
+-- A GOOD SET-UP
+module _ (h : BlockLand) (ws : List ℕ) (r : SetUp) (e : r ≡ setUpOf (setUp h ws)) (f : r ≡ SetUp.Good) where
+  pub good-align : goodAlign (h .align .0) ≡ true
+  good-align = placed h ws (set-up-true (setUp h ws) r e f) .arena .align
 
+  module _ (a : Arena) (ea : a ≡ arenaIn h) where
+    pub good-positive : 0 < a .align .0
+    good-positive = rw ea (placed h ws (set-up-true (setUp h ws) r e f) .positive)
+
+    pub good-ready : Ready a
+    good-ready = rw ea (placed h ws (set-up-true (setUp h ws) r e f) .check)
+
+pub ruleset good-ways = (good-align, good-positive, good-ready)
+
+-- THE LOOK
 module _ (h : BlockLand) (ws : List ℕ) (aim : Aim) (r : SetUp) (e : r ≡ setUpOf (setUp h ws)) where
   pub look-bad : r ≡ SetUp.Bad → Look.BadSetUp ≡ lookOf h ws aim
   unfolding lookOf
   look-bad f = rw (set-up-false (setUp h ws) r e f)
 
-  module _ (f : r ≡ SetUp.Good) (a : Arena) (ea : a ≡ arenaIn h) where
-    module _ (v : Verdict) (ev : v ≡ surveyOf a ws (h .ranges) (h .bytes) aim) where
-      seen : v ≡ cond (sound h ws) (Verdict.Sound (entryOf aim (tableOf h ws))) Verdict.Damaged
-      unfolding surveyOf sound
-      seen = ev ∙ ap (λ (x : Arena). surveyOf x ws (h .ranges) (h .bytes) aim) ea
+  module _ (f : r ≡ SetUp.Good) (a : Arena) (ea : a ≡ arenaIn h) (v : Verdict) (ev : v ≡ surveyOf a ws (h .ranges) (h .bytes) aim) where
+    seen : v ≡ cond (sound h ws) (Verdict.Sound (entryOf aim (tableOf h ws))) Verdict.Damaged
+    unfolding surveyOf sound
+    seen = ev ∙ ap (λ (x : Arena). surveyOf x ws (h .ranges) (h .bytes) aim) ea
 
-      pub look-damaged : v ≡ Verdict.Damaged → Look.Damaged ≡ lookOf h ws aim
-      unfolding lookOf
-      look-damaged g =
-          by (sound h ws)
-          (λ t. let q : v ≡ Verdict.Sound (entryOf aim (tableOf h ws)) = rw t at seen in let z : _≡_ {A = ℕ} 0 1 = cc in absurd (omega arith))
-          (λ t. rw (set-up-true (setUp h ws) r e f, t))
+    pub survey-damaged : v ≡ Verdict.Damaged → sound h ws ≡ false
+    survey-damaged g =
+        by (sound h ws)
+        (λ t. let q : v ≡ Verdict.Sound (entryOf aim (tableOf h ws)) = rw t at seen in let z : _≡_ {A = ℕ} 0 1 = cc in absurd (omega arith))
+        (λ t. t)
 
-      pub look-sound : (s : Entry) → v ≡ Verdict.Sound s → Look.Sound s ≡ lookOf h ws aim
-      unfolding lookOf
-      look-sound s g =
-          by (sound h ws)
-          (λ t. let q : v ≡ Verdict.Sound (entryOf aim (tableOf h ws)) = rw t at seen in
-          let w : s ≡ entryOf aim (tableOf h ws) = cc in rw (set-up-true (setUp h ws) r e f, t) (ap (λ (x : Entry). Look.Sound x) w))
-          (λ t. let q : v ≡ Verdict.Damaged = rw t at seen in let z : _≡_ {A = ℕ} 0 1 = cc in absurd (omega arith))
+    pub survey-kept : (s : Entry) → v ≡ Verdict.Sound s → Looked h ws aim s
+    survey-kept s g =
+        by (sound h ws)
+        (λ t. let q : v ≡ Verdict.Sound (entryOf aim (tableOf h ws)) = rw t at seen in record { good = set-up-true (setUp h ws) r e f; whole = t; kept = cc })
+        (λ t. let q : v ≡ Verdict.Damaged = rw t at seen in let z : _≡_ {A = ℕ} 0 1 = cc in absurd (omega arith))
 
-pub ruleset look-ways = (look-bad, look-ready, look-damaged, look-sound)
+    pub look-damaged : v ≡ Verdict.Damaged → Look.Damaged ≡ lookOf h ws aim
+    unfolding lookOf
+    look-damaged g = rw (set-up-true (setUp h ws) r e f, survey-damaged g)
+
+    pub look-sound : (s : Entry) → v ≡ Verdict.Sound s → Look.Sound s ≡ lookOf h ws aim
+    unfolding lookOf
+    look-sound s g = let k = survey-kept s g in rw (k .good, k .whole) (ap (λ (x : Entry). Look.Sound x) (k .kept))
+
+pub ruleset look-ways = (good-ready, look-bad, look-damaged, look-sound)
 
 -- AN OPENING
 module _ (b l a : ℕ) (ws : List ℕ) (h : BlockLand) (eh : h ≡ newLand b l a) (r : SetUp) (e : r ≡ setUpOf (setUp h ws)) where

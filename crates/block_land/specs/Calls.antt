@@ -9,7 +9,7 @@ use Rattle.units.specs.declared.Range.{Range}
 use Rattle.units.specs.declared.Which.{Which}
 use Rattle.units.specs.declared.rules.SetUp.{SetUp}
 use Rattle.model.specs.Marks.{struct}
-use Rattle.model.specs.Calls.{Outcome, insert, delete, find, walk}
+use Rattle.model.specs.Calls.{Call, Outcome, insert, delete, find, walk}
 use Rattle.model.specs.Layouts.{Done}
 use Rattle.model.specs.Lands.{land-call}
 use Rattle.block_words.specs.Words.{fill}
@@ -22,18 +22,22 @@ use Rattle.block_land.specs.declared.Found.{Found}
 abbrev pub LandDone : Type 0
 LandDone = Done Outcome BlockLand (List ℕ)
 
--- Insert and delete of a range, a find, the walk: the outcome, the next handle and the words.
-unfoldable pub inserted : BlockLand → List ℕ → Range → LandDone
-inserted h ws y = land-call layout (insert (y .base .0) (y .limit .0)) h ws
+-- What every call gives: the outcome, the next handle and the words.
+unfoldable pub does : Call → BlockLand → List ℕ → LandDone
+does c h ws = land-call layout c h ws
 
-unfoldable pub deleted : BlockLand → List ℕ → Range → LandDone
-deleted h ws y = land-call layout (delete (y .base .0) (y .limit .0)) h ws
+-- Insert and delete of a range, a find, the walk.
+abbrev pub inserted : BlockLand → List ℕ → Range → LandDone
+inserted h ws y = does (insert (y .base .0) (y .limit .0)) h ws
 
-unfoldable pub found : BlockLand → List ℕ → Which → ℕ → Mode → LandDone
-found h ws w n mode = land-call layout (find w n mode) h ws
+abbrev pub deleted : BlockLand → List ℕ → Range → LandDone
+deleted h ws y = does (delete (y .base .0) (y .limit .0)) h ws
 
-unfoldable pub walked : BlockLand → List ℕ → ℕ → LandDone
-walked h ws x = land-call layout (walk x) h ws
+abbrev pub found : BlockLand → List ℕ → Which → ℕ → Mode → LandDone
+found h ws w n mode = does (find w n mode) h ws
+
+abbrev pub walked : BlockLand → List ℕ → ℕ → LandDone
+walked h ws x = does (walk x) h ws
 
 -- What a call hands back of them.
 abbrev pub changed : LandDone → Changed

@@ -9,6 +9,7 @@ use Rattle.units.specs.declared.Range.{Range}
 use Rattle.units.specs.declared.Size.{Size}
 use Rattle.units.specs.declared.Which.{Which}
 use Rattle.units.specs.declared.rules.Arena.{Arena}
+use Rattle.model.specs.Looks as looks
 use Rattle.block_words.specs.Surveys.{entryOf}
 use Rattle.block_words.specs.declared.Entry.{Entry}
 use Rattle.block_land.specs.Layout.{align, setUp, sound, tableOf}
@@ -38,10 +39,8 @@ pub record Readable (h : BlockLand) (ws : List ℕ) : Type 0 where
   pub whole : sound h ws ≡ true
 
 -- And the entry of it that an aim keeps.
-pub record Aimed (h : BlockLand) (ws : List ℕ) (aim : Aim) (e : Entry) : Type 0 where
-  pub good : setUp h ws ≡ true
-  pub whole : sound h ws ≡ true
-  pub kept : e ≡ entryOf aim (tableOf h ws)
+abbrev pub Looked : BlockLand → List ℕ → Aim → Entry → Type 0
+Looked h ws aim e = looks.Looked (setUp h ws) (sound h ws) (entryOf aim (tableOf h ws)) e
 
 abbrev pub findAim : BlockLand → Which → Size → Aim
 findAim h w n = Aim.Find w (record { 0 = findSize (align h) (n .0) })

@@ -10,12 +10,12 @@ use units::Range;
 use units::RangeCheck;
 ghost use mathlib.Core.Path.{_≡_};
 ghost use Rattle.block_land.specs.Calls.{changed, deleted};
-ghost use Rattle.block_land.specs.Parts.{Aimed, reachLimit};
+ghost use Rattle.block_land.specs.Parts.{Looked, reachLimit};
 
 impl BlockLand {
     // Delete from a sound table, at the first range that reaches the limit of the request.
     fn delete_at(self, nodes: &mut [u64], range: Range, entry: Entry) -> Changed
-        requires { ⌜ Aimed self (now nodes) (reachLimit range) entry ⌝ }
+        requires { ⌜ Looked self (now nodes) (reachLimit range) entry ⌝ }
         ensures { λ r. ⌜ (r ≡ changed (deleted self (now (nodes .entry)) range)) × (now (nodes .exit) ≡ deleted self (now (nodes .entry)) range .words) ⌝ }
     {
         let RangeCheck::Good = self.good_arena().check_range(range) else {

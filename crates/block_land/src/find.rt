@@ -1,17 +1,21 @@
 // The three finds: the range chosen, the part of it that is found, and its removal.
 use crate::BlockLand;
 use crate::Found;
-use crate::Look;
-use block_edits::Edited;
 use block_words::Entry;
+use block_words::Verdict;
+use units::Aim;
 use units::Mode;
 use units::Range;
+use units::SetUp;
 use units::Size;
 use units::SizeCheck;
 use units::Which;
+ghost use mathlib.Core.Bool.{true};
 ghost use mathlib.Core.Path.{_≡_};
+ghost use Rattle.model.specs.Calls.{good-size};
 ghost use Rattle.block_land.specs.Calls.{foundNone, foundOf, found};
-ghost use Rattle.block_land.specs.Parts.{Aimed, findAim};
+ghost use Rattle.block_land.specs.Layout.{arenaOf};
+ghost use Rattle.block_land.specs.Parts.{Looked, findAim};
 
 fn none_found(land: BlockLand, answer: u64) -> Found
     ensures { λ r. ⌜ r ≡ foundNone land answer ⌝ }
@@ -25,20 +29,17 @@ fn none_found(land: BlockLand, answer: u64) -> Found
 }
 
 impl BlockLand {
-    // A find in a sound table, at the entry chosen.
+    // A find of a good size in a sound table, at the entry chosen. What is left always has room.
     fn find_at(self, nodes: &mut [u64], which: Which, size: Size, mode: Mode, entry: Entry) -> Found
-        requires { ⌜ Aimed self (now nodes) (findAim self which size) entry ⌝ }
+        requires { ⌜ Looked self (now nodes) (findAim self which size) entry ⌝ }
+        requires { ⌜ good-size (arenaOf self (now nodes)) which (size .0) ≡ true ⌝ }
         ensures { λ r. ⌜ (r ≡ foundOf (found self (now (nodes .entry)) which (size .0) mode)) × (now (nodes .exit) ≡ found self (now (nodes .entry)) which (size .0) mode .words) ⌝ }
     {
-        let arena = self.good_arena();
-        let SizeCheck::Good = arena.check_find(which, size) else {
-            return none_found(self, 4);
-        };
         let here = entry.here;
         if here.base.is_zero() {
             return none_found(self, 2);
         }
-        let part = finds::part(which, mode, arena.find_size(size), here);
+        let part = finds::part(which, mode, self.arena().find_size(size), here);
         if let Mode::None = mode {
             return Found {
                 land: self,
@@ -47,14 +48,7 @@ impl BlockLand {
                 old: here,
             };
         }
-        let Edited::Done(_, count) = block_edits::cut::cut_at(
-            nodes,
-            self.ranges,
-            entry.number,
-            part,
-        ) else {
-            return none_found(self, 3);
-        };
+        let count = block_edits::cut::cut_at(nodes, self.ranges, entry.number, part);
         let bytes = self.bytes.minus(part.size());
         Found {
             land: self.close(count, bytes),
@@ -64,18 +58,25 @@ impl BlockLand {
         }
     }
 
-    fn find(self, nodes: &mut [u64], which: Which, size: Size, mode: Mode) -> Found
+    // The find that `which` names: the set-up, the size, the one scan, and then 6, 4, 2 and the removal.
+    pub fn find(self, nodes: &mut [u64], which: Which, size: Size, mode: Mode) -> Found
         ensures { λ r. ⌜ (r ≡ foundOf (found self (now (nodes .entry)) which (size .0) mode)) × (now (nodes .exit) ≡ found self (now (nodes .entry)) which (size .0) mode .words) ⌝ }
     {
-        let wanted = self.arena().find_size(size);
-        match self.look_find(nodes, which, wanted) {
-            Look::BadSetUp => none_found(self, 5),
-            Look::Damaged => none_found(self, 6),
-            Look::Sound(e) => {
-                let entry = e;
-                self.find_at(nodes, which, size, mode, entry)
-            }
-        }
+        let SetUp::Good = self.set_up(nodes) else {
+            return none_found(self, 5);
+        };
+        let arena = self.good_arena();
+        let check = arena.check_find(which, size);
+        let aim = Aim::of_find(check, which, arena.find_size(size));
+        let bytes = self.bytes;
+        let Verdict::Sound(e) = block_words::survey(arena, nodes, self.ranges, bytes, aim) else {
+            return none_found(self, 6);
+        };
+        let entry = e;
+        let SizeCheck::Good = check else {
+            return none_found(self, 4);
+        };
+        self.find_at(nodes, which, size, mode, entry)
     }
 
     // The isolated range of at least the size with the lowest base.

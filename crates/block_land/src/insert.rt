@@ -10,12 +10,12 @@ use units::Range;
 use units::RangeCheck;
 ghost use mathlib.Core.Path.{_≡_};
 ghost use Rattle.block_land.specs.Calls.{changed, inserted};
-ghost use Rattle.block_land.specs.Parts.{Aimed, reachBase};
+ghost use Rattle.block_land.specs.Parts.{Looked, reachBase};
 
 impl BlockLand {
     // Insert into a sound table, at the first range that reaches the base of the request.
     fn insert_at(self, nodes: &mut [u64], range: Range, entry: Entry) -> Changed
-        requires { ⌜ Aimed self (now nodes) (reachBase range) entry ⌝ }
+        requires { ⌜ Looked self (now nodes) (reachBase range) entry ⌝ }
         ensures { λ r. ⌜ (r ≡ changed (inserted self (now (nodes .entry)) range)) × (now (nodes .exit) ≡ inserted self (now (nodes .entry)) range .words) ⌝ }
     {
         let RangeCheck::Good = self.good_arena().check_range(range) else {

@@ -17,11 +17,9 @@ use units::ArenaCheck;
 use units::Range;
 use units::SetUp;
 use units::Size;
-use units::Which;
 ghost use mathlib.Core.Bool.{true};
 ghost use mathlib.Core.Path.{_≡_};
 ghost use Rattle.units.specs.Rules.{goodAlign, setUpOf};
-ghost use Rattle.units.specs.declared.aims.Aim.{Aim};
 ghost use Rattle.block_land.specs.Layout.{lent, setUp};
 ghost use Rattle.block_land.specs.Calls.{refusedBy, changed, walked};
 ghost use Rattle.block_land.specs.Parts.{arenaIn, lookOf, closedWith};
@@ -126,20 +124,6 @@ impl BlockLand {
         };
         let bytes = self.bytes;
         match block_words::survey(self.arena(), nodes, self.ranges, bytes, aim) {
-            Verdict::Damaged => Look::Damaged,
-            Verdict::Sound(entry) => Look::Sound(entry),
-        }
-    }
-
-    // The one scan of a find.
-    pub(crate) fn look_find(self, nodes: &[u64], which: Which, size: Size) -> Look
-        ensures { λ r. ⌜ r ≡ lookOf self (now (nodes .entry)) (Aim.Find which size) ⌝ }
-    {
-        let SetUp::Good = self.set_up(nodes) else {
-            return Look::BadSetUp;
-        };
-        let bytes = self.bytes;
-        match block_words::survey_find(self.arena(), nodes, self.ranges, bytes, which, size) {
             Verdict::Damaged => Look::Damaged,
             Verdict::Sound(entry) => Look::Sound(entry),
         }

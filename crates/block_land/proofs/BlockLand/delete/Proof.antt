@@ -1,6 +1,9 @@
 -- `BlockLand::delete` meets its contract: 5, 6, and then the table. Assumes nothing.
 use mathlib.Core.Path.{refl}
-use Rattle.block_land.proofs.Answers.{saw-aimed, is-delete, refuse-change, answers-5, answers-6}
+use Rattle.model.specs.Calls.{delete}
+use Rattle.model.proofs.EditAnswers.{edit-5, edit-6}
+use Rattle.model.proofs.Looking.{saw}
+use Rattle.block_land.proofs.Land.{block-land}
 use borrow.Author.Needs.{needs}
 use Rattle.block_land.proofs.BlockLand.delete.Statement.{statement}
 use Rattle.block_land.proofs.BlockLand.delete.Tie as tie
@@ -24,27 +27,23 @@ enum-known-e : tie.Need-enum-known-e
 enum-known-e c = search needs
 
 delete-at-requires : tie.Need-delete-at-requires
-delete-at-requires c κs = search saw-aimed
+delete-at-requires c κs = search (saw block-land)
 
 same-length : tie.Need-same-length
 same-length c = search needs
 
 returns : tie.Need-returns
 returns c =
-    let entry = c .before .before .before .before .before .before .before in
-    refuse-change _ _ _ 5
-    (answers-5 _ _ _ _ (c .before .before .before .look .ensures) _ _ (is-delete _ _ (entry .args .range)) (c .before .enum-told .given .1)) _
-    (c .refused .ensures) _ refl
+    let y = c .before .before .before .before .before .before .before .args .range in
+    edit-5 block-land _ _ _ _ (c .before .before .before .look .ensures) (delete (y .base .0) (y .limit .0)) (c .before .enum-told .given .1) _ (c .refused .ensures)
 
 same-length-2 : tie.Need-same-length-2
 same-length-2 c = search needs
 
 returns-2 : tie.Need-returns-2
 returns-2 c =
-    let entry = c .before .before .before .before .before .before .before in
-    refuse-change _ _ _ 6
-    (answers-6 _ _ _ _ (c .before .before .before .look .ensures) _ _ (is-delete _ _ (entry .args .range)) (c .before .enum-told2 .given .1)) _
-    (c .refused2 .ensures) _ refl
+    let y = c .before .before .before .before .before .before .before .args .range in
+    edit-6 block-land _ _ _ _ (c .before .before .before .look .ensures) (delete (y .base .0) (y .limit .0)) (c .before .enum-told2 .given .1) _ (c .refused2 .ensures)
 
 same-length-3 : tie.Need-same-length-3
 same-length-3 c = search needs

@@ -1,0 +1,72 @@
+-- The block land, as the laws on answers of `model` take it. Assumes nothing.
+use Prim.Native.Nat.{ℕ}
+use mathlib.Core.Bool.{cond}
+use mathlib.Core.List.{List}
+use mathlib.Core.Option.{none}
+use mathlib.Core.Path.{_≡_, refl, _∙_}
+use Rattle.units.specs.declared.aims.Aim.{Aim}
+use Rattle.model.specs.Calls.{Call}
+use Rattle.model.specs.Lands.{land-call}
+use Rattle.model.specs.Layouts.{reading}
+use Rattle.model.proofs.Aiming.{picked-by}
+use Rattle.model.proofs.Land.{Land}
+use Rattle.block_words.specs.Surveys.{entryOf}
+use Rattle.block_words.specs.declared.Entry.{Entry}
+use Rattle.block_edits.proofs.Entering.{entry-here}
+use Rattle.block_land.specs.Calls.{does}
+use Rattle.block_land.specs.Layout.{setUp, sound, tableOf, readOf, layout}
+use Rattle.block_land.specs.Parts.{arenaIn, lookNumber, lookOf}
+use Rattle.block_land.specs.declared.BlockLand.{BlockLand}
+use Rattle.block_land.specs.declared.Changed.{Changed}
+use Rattle.block_land.specs.declared.Found.{Found}
+use Rattle.block_land.specs.declared.Look.{Look}
+use Rattle.block_land.proofs.LayoutLaws.{block-laws, handle-back, words-back}
+use Rattle.block_land.proofs.Sound.{placed, fine}
+
+pub is-call : (c : Call) (h : BlockLand) (ws : List ℕ) → does c h ws ≡ land-call layout c h ws
+unfolding does
+is-call c h ws = refl
+
+pub reads-as : (h : BlockLand) (ws : List ℕ) → readOf h ws ≡ reading (setUp h ws) (sound h ws) (tableOf h ws)
+unfolding readOf
+reads-as h ws = refl
+
+pub looks : (h : BlockLand) (ws : List ℕ) (aim : Aim) →
+    lookOf h ws aim ≡ cond (setUp h ws) (cond (sound h ws) (Look.Sound (entryOf aim (tableOf h ws))) Look.Damaged) Look.BadSetUp
+unfolding lookOf
+looks h ws aim = refl
+
+pub same : (s t : Entry) → Look.Sound s ≡ Look.Sound t → s ≡ t
+same s t e = cc
+
+abbrev pub block-land : Land BlockLand Look Entry Changed Found
+block-land = record {
+  layout = layout;
+  set-up = setUp;
+  sound = sound;
+  ranges = tableOf;
+  arena-in = arenaIn;
+  bad = Look.BadSetUp;
+  damaged = Look.Damaged;
+  whole = λ s. Look.Sound s;
+  number = lookNumber;
+  look = lookOf;
+  keep = entryOf;
+  here = λ s. s .here;
+  change = λ h n r. record { land = h; answer = n; range = r };
+  find-made = λ h n r o. record { land = h; answer = n; range = r; old = o };
+  does = does;
+  is-call = is-call;
+  laws = block-laws;
+  reads = reads-as;
+  arena-is = λ h ws. refl;
+  above = λ h ws g. placed h ws g .arena .above;
+  number-bad = refl;
+  number-damaged = refl;
+  number-whole = λ s. refl;
+  same = same;
+  looks = looks;
+  keeps = λ aim lo hi rs z a. entry-here aim rs ∙ picked-by aim none rs;
+  handle-back = λ h ws g s. handle-back h ws (fine h ws g s);
+  words-back = λ h ws g s. words-back h ws (fine h ws g s);
+}
