@@ -8,7 +8,7 @@ use lib.ListN.{length}
 use types.Run.{OneOf}
 use denote.Enum.Declared.{tagOf}
 use borrow.Author.Tests.{le-leb, lt-leb}
-use Rattle.units.specs.Rules.{goodAlign, arenaCheck, goodArena, setUpOf}
+use Rattle.units.specs.Rules.{goodAlign, arenaCheck, goodArena, setUpOf, soundnessOf}
 use Rattle.units.specs.Words.{rangeOf}
 use Rattle.units.specs.declared.Addr.{Addr}
 use Rattle.units.specs.declared.Align.{Align}
@@ -18,14 +18,16 @@ use Rattle.units.specs.declared.aims.Aim.{Aim}
 use Rattle.units.specs.declared.rules.Arena.{Arena}
 use Rattle.units.specs.declared.rules.ArenaCheck.{ArenaCheck}
 use Rattle.units.specs.declared.rules.SetUp.{SetUp}
-use Rattle.units.proofs.Cases.{bad-arena, set-up-true, set-up-false}
+use Rattle.units.specs.declared.rules.Soundness.{Soundness}
+use Rattle.units.proofs.Cases.{bad-arena, set-up-true, set-up-false, sound-true, sound-false}
 use Rattle.units.proofs.Tests.{by}
 use Rattle.units.proofs.rules.ArenaCheck as arena-type
 use Rattle.block_words.specs.Tallies.{Ready}
-use Rattle.block_words.specs.Surveys.{entryOf, surveyOf}
+use Rattle.block_words.specs.Surveys.{entryOf, Rising, surveyOf}
 use Rattle.block_words.specs.declared.Entry.{Entry}
-use Rattle.block_words.specs.Words.{fill}
+use Rattle.block_words.specs.Words.{pairs, soundTable, fill}
 use Rattle.block_words.specs.declared.Verdict.{Verdict}
+use Rattle.block_words.proofs.Surveying.{sound-rising}
 use Rattle.block_land.specs.Calls.{refusedBy, foundNone, newLand, openedOf, openedWords}
 use Rattle.block_land.specs.Layout.{base, limit, align, lent, setUp, sound, tableOf}
 use Rattle.block_land.specs.Parts.{arenaIn, lookOf, Looked}
@@ -80,7 +82,21 @@ module _ (h : BlockLand) (ws : List ℕ) (r : SetUp) (e : r ≡ setUpOf (setUp h
     pub good-ready : Ready a
     good-ready = rw ea (placed h ws (set-up-true (setUp h ws) r e f) .check)
 
-pub ruleset good-ways = (good-align, good-positive, good-ready)
+    -- the table judged
+    module _ (z : Soundness) (ez : z ≡ soundnessOf (soundTable (a .base .0) (a .limit .0) (a .align .0) ws (h .ranges) (h .bytes .0))) where
+      pub table-damaged : z ≡ Soundness.Damaged → sound h ws ≡ false
+      unfolding sound
+      table-damaged g = rw ea at (sound-false (soundTable (a .base .0) (a .limit .0) (a .align .0) ws (h .ranges) (h .bytes .0)) z ez g)
+
+      module _ (g : z ≡ Soundness.Sound) where
+        pub table-rising : Rising ws (h .ranges)
+        table-rising = sound-rising a ws (h .ranges) (h .bytes) good-ready (sound-true _ z ez g)
+
+        pub table-kept : (aim : Aim) (d : Entry) → d ≡ entryOf aim (pairs ws (h .ranges)) → Looked h ws aim d
+        unfolding sound
+        table-kept aim d ed = record { good = set-up-true (setUp h ws) r e f; whole = rw ea at (sound-true (soundTable (a .base .0) (a .limit .0) (a .align .0) ws (h .ranges) (h .bytes .0)) z ez g); kept = ed }
+
+pub ruleset good-ways = (good-align, good-positive, good-ready, table-rising)
 
 -- THE LOOK
 module _ (h : BlockLand) (ws : List ℕ) (aim : Aim) (r : SetUp) (e : r ≡ setUpOf (setUp h ws)) where

@@ -2,13 +2,13 @@
 use crate::BlockLand;
 use crate::Found;
 use block_words::Entry;
-use block_words::Verdict;
-use units::Aim;
+use block_words::seeks;
 use units::Mode;
 use units::Range;
 use units::SetUp;
 use units::Size;
 use units::SizeCheck;
+use units::Soundness;
 use units::Which;
 ghost use mathlib.Core.Bool.{true};
 ghost use mathlib.Core.Path.{_≡_};
@@ -67,15 +67,15 @@ impl BlockLand {
         };
         let arena = self.good_arena();
         let check = arena.check_find(which, size);
-        let aim = Aim::of_find(check, which, arena.find_size(size));
+        let wanted = arena.find_size(size);
         let bytes = self.bytes;
-        let Verdict::Sound(e) = block_words::survey(arena, nodes, self.ranges, bytes, aim) else {
+        let Soundness::Sound = block_words::sound(arena, nodes, self.ranges, bytes) else {
             return none_found(self, 6);
         };
-        let entry = e;
         let SizeCheck::Good = check else {
             return none_found(self, 4);
         };
+        let entry = seeks::found(nodes, self.ranges as usize, which, wanted);
         self.find_at(nodes, which, size, mode, entry)
     }
 

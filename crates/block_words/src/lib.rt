@@ -11,11 +11,9 @@ use units::Arena;
 use units::Range;
 use units::Size;
 use units::Soundness;
-use units::Which;
 ghost use mathlib.Core.Path.{_≡_};
 ghost use Prim.Native.Nat.{_*_, _/_, _≤_, _<_};
 ghost use lib.ListN.{length, drop};
-ghost use Rattle.units.specs.declared.aims.Aim.{Aim};
 ghost use Rattle.units.specs.Rules.{soundnessOf};
 ghost use Rattle.block_words.specs.Words.{clear, soundTable};
 ghost use Rattle.block_words.specs.Tallies.{pairAt, Ready};
@@ -92,22 +90,4 @@ pub fn survey(arena: Arena, words: &[u64], ranges: u64, bytes: Size, aim: Aim) -
         return Verdict::Damaged;
     };
     Verdict::Sound(seeks::entry(words, ranges as usize, aim))
-}
-
-// The same for a find: no other aim is asked for.
-pub fn survey_find(
-    arena: Arena,
-    words: &[u64],
-    ranges: u64,
-    bytes: Size,
-    which: Which,
-    size: Size,
-) -> Verdict
-    requires { ⌜ Ready arena ⌝ }
-    ensures { λ r. ⌜ r ≡ surveyOf arena (now (words .entry)) ranges bytes (Aim.Find which size) ⌝ }
-{
-    let Soundness::Sound = sound(arena, words, ranges, bytes) else {
-        return Verdict::Damaged;
-    };
-    Verdict::Sound(seeks::found(words, ranges as usize, which, size))
 }

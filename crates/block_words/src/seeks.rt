@@ -135,7 +135,7 @@ fn largest(words: &[u64], n: usize, size: Size) -> Entry
 }
 
 // The range that a find chooses.
-pub(crate) fn found(words: &[u64], n: usize, which: Which, size: Size) -> Entry
+pub fn found(words: &[u64], n: usize, which: Which, size: Size) -> Entry
     requires { ⌜ Rising (now words) n ⌝ }
     ensures { λ r. ⌜ r ≡ entryOf (Aim.Find which size) (pairs (now (words .entry)) n) ⌝ }
 {

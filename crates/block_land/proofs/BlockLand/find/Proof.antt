@@ -1,10 +1,13 @@
 -- `BlockLand::find` meets its contract: 5, 6, 4, and then the entry chosen. Assumes nothing.
+use mathlib.Core.Path.{refl}
 use borrow.Author.Needs.{needs}
+use Rattle.units.specs.declared.aims.Aim.{Aim}
+use Rattle.units.proofs.Cases.{set-up-true}
+use Rattle.units.proofs.Taking.{aim-good}
 use Rattle.model.specs.Calls.{find}
 use Rattle.model.proofs.FindAnswers.{find-5, find-6, find-4, find-ready}
-use Rattle.units.proofs.Cases.{set-up-true}
 use Rattle.block_land.proofs.Land.{block-land}
-use Rattle.block_land.proofs.Ways.{good-ways, survey-damaged, survey-kept}
+use Rattle.block_land.proofs.Ways.{good-ways, table-damaged, table-rising, table-kept}
 use Rattle.block_land.proofs.BlockLand.find.Statement.{statement}
 use Rattle.block_land.proofs.BlockLand.find.Tie as tie
 
@@ -38,17 +41,14 @@ check-find-requires c κs = search good-ways
 find-size-requires : tie.Need-find-size-requires
 find-size-requires c κs = search needs
 
-of-find-requires : tie.Need-of-find-requires
-of-find-requires c κs = search needs
-
-survey-requires : tie.Need-survey-requires
-survey-requires c κs = search good-ways
-
-enum-known-e : tie.Need-enum-known-e
-enum-known-e c = search needs
+sound-requires : tie.Need-sound-requires
+sound-requires c κs = search good-ways
 
 enum-told-3 : tie.Need-enum-told-3
 enum-told-3 c = search needs
+
+enum-told-4 : tie.Need-enum-told-4
+enum-told-4 c = search needs
 
 none-found-requires-2 : tie.Need-none-found-requires-2
 none-found-requires-2 c κs = search needs
@@ -58,17 +58,18 @@ same-length-2 c = search needs
 
 returns-2 : tie.Need-returns-2
 returns-2 c =
-    let survey = c .before .before .before in
-    let arena = survey .before .before .before .before .before .before in
+    let table = c .before .before .before in
+    let size = table .before .before .before in
+    let check = size .before in
+    let arena = check .before in
     let good = arena .before in
     let up = good .before .before in
     let a = up .before .before .before .args in
     find-6 block-land _ _ (find (a .which) (a .size .0) (a .mode)) (set-up-true _ _ (up .set-up .ensures) (good .enum-told .given .1))
-    (survey-damaged _ _ _ _ (up .set-up .ensures) (good .enum-told .given .1) _ (arena .good-arena .ensures) _ (survey .survey .ensures)
-    (c .before .enum-told3 .given .1)) _ (c .none-found2 .ensures)
+    (table-damaged _ _ _ (up .set-up .ensures) (good .enum-told .given .1) _ (arena .good-arena .ensures) _ (table .sound .ensures) (c .before .enum-told4 .given .1)) _ (c .none-found2 .ensures)
 
-enum-told-4 : tie.Need-enum-told-4
-enum-told-4 c = search needs
+enum-told-5 : tie.Need-enum-told-5
+enum-told-5 c = search needs
 
 none-found-requires-3 : tie.Need-none-found-requires-3
 none-found-requires-3 c κs = search needs
@@ -78,31 +79,45 @@ same-length-3 c = search needs
 
 returns-3 : tie.Need-returns-3
 returns-3 c =
-    let entry = c .before .before .before in
-    let survey = entry .before .before in
-    let aim = survey .before .before .before in
-    let check = aim .before .before in
+    let told = c .before .before in
+    let table = told .before .before in
+    let size = table .before .before .before in
+    let check = size .before in
     let arena = check .before in
     let good = arena .before in
     let up = good .before .before in
     let a = up .before .before .before .args in
     find-4 block-land _ _ (a .which) (a .size) _ (arena .good-arena .ensures) _ (check .check-find .ensures) _ _
-    (survey-kept _ _ _ _ (up .set-up .ensures) (good .enum-told .given .1) _ (arena .good-arena .ensures) _ (survey .survey .ensures) _ (entry .e .given .1))
+    (table-kept _ _ _ (up .set-up .ensures) (good .enum-told .given .1) _ (arena .good-arena .ensures) _ (table .sound .ensures) (told .enum-told3 .given .1) Aim.Nothing _ refl)
     (c .before .match3 .keys2) (a .mode) _ (c .none-found3 .ensures)
+
+found-requires : tie.Need-found-requires
+found-requires c κs =
+    let told = c .before .before .before in
+    let table = told .before .before in
+    let size = table .before .before .before in
+    let check = size .before in
+    let arena = check .before in
+    let good = arena .before in
+    let up = good .before .before in
+    let a = up .before .before .before .args in
+    table-rising _ _ _ (up .set-up .ensures) (good .enum-told .given .1) _ (arena .good-arena .ensures) _ (table .sound .ensures) (told .enum-told3 .given .1)
 
 find-at-requires : tie.Need-find-at-requires
 find-at-requires c κs =
-    let entry = c .before .before .before .before in
-    let survey = entry .before .before in
-    let aim = survey .before .before .before in
-    let check = aim .before .before in
+    let found = c .before in
+    let told5 = found .before .before in
+    let told = told5 .before .before in
+    let table = told .before .before in
+    let size = table .before .before .before in
+    let check = size .before in
     let arena = check .before in
     let good = arena .before in
     let up = good .before .before in
     let a = up .before .before .before .args in
     find-ready block-land _ _ (a .which) (a .size) _ (arena .good-arena .ensures) _ (check .check-find .ensures) _ _
-    (survey-kept _ _ _ _ (up .set-up .ensures) (good .enum-told .given .1) _ (arena .good-arena .ensures) _ (survey .survey .ensures) _ (entry .e .given .1))
-    (c .before .enum-told4 .given .1) _ (aim .before .find-size .ensures) (aim .of-find .ensures)
+    (table-kept _ _ _ (up .set-up .ensures) (good .enum-told .given .1) _ (arena .good-arena .ensures) _ (table .sound .ensures) (told .enum-told3 .given .1) _ _ (found .found .ensures))
+    (told5 .enum-told5 .given .1) _ (size .find-size .ensures) (aim-good _ _ _ (told5 .enum-told5 .given .1))
 
 same-length-4 : tie.Need-same-length-4
 same-length-4 c = search needs
@@ -123,17 +138,17 @@ find-spec =
     good-arena-requires
     check-find-requires
     find-size-requires
-    of-find-requires
-    survey-requires
-    enum-known-e
+    sound-requires
     enum-told-3
+    enum-told-4
     none-found-requires-2
     same-length-2
     returns-2
-    enum-told-4
+    enum-told-5
     none-found-requires-3
     same-length-3
     returns-3
+    found-requires
     find-at-requires
     same-length-4
     returns-4)
