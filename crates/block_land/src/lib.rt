@@ -22,7 +22,7 @@ ghost use mathlib.Core.Path.{_≡_};
 ghost use Rattle.units.specs.Rules.{goodAlign, setUpOf};
 ghost use Rattle.block_land.specs.Layout.{lent, setUp};
 ghost use Rattle.block_land.specs.Calls.{refusedBy, changed, walked};
-ghost use Rattle.block_land.specs.Parts.{arenaIn, lookOf, closedWith};
+ghost use Rattle.block_land.specs.Parts.{arenaIn, lookNumber, lookOf, closedWith};
 
 // The handle of a block land: its arena, the number of ranges and of free bytes.
 #[repr(C)]
@@ -63,6 +63,19 @@ pub enum Look {
     BadSetUp,
     Damaged,
     Sound(Entry),
+}
+
+impl Look {
+    // Document 01's number of what was found: 5, 6, or 0.
+    pub fn number(self) -> u64
+        ensures { λ r. ⌜ r ≡ lookNumber self ⌝ }
+    {
+        match self {
+            Look::BadSetUp => 5,
+            Look::Damaged => 6,
+            Look::Sound(_) => 0,
+        }
+    }
 }
 
 fn refused(land: BlockLand, answer: u64) -> Changed

@@ -5,15 +5,8 @@ use Rattle.units.specs.declared.Which.{Which}
 use Rattle.list_land.specs.Calls.{LandDone, found}
 use Rattle.list_land.specs.Layout.{setUp, sound}
 use Rattle.list_land.specs.declared.ListLand.{ListLand}
-use Rattle.list_land.specs.declared.Look.{Look}
 use Rattle.capi.specs.Modes.{givenMode, unknownMode, withMode}
 
 -- With a number that is no mode, 5, 6 or 4, and the handle and the words as they were.
 abbrev pub foundBy : ListLand → List ℕ → Which → ℕ → ℕ → LandDone
 foundBy h ws w n m = withMode (found h ws w n) (unknownMode (setUp h ws) (sound h ws)) h ws (givenMode m)
-
--- The number of a refusal for the mode, from what a call finds before it looks at its request.
-abbrev pub modeAnswer : Look → ℕ
-modeAnswer Look.BadSetUp = 5
-modeAnswer Look.Damaged = 6
-modeAnswer (Look.Sound s) = 4

@@ -28,6 +28,10 @@ abbrev pub unknownMode : Bool → Bool → ℕ
 unknownMode set-up sound =
     cond set-up (cond sound (givenNumber Given.Unknown) (soundNumber Soundness.Damaged)) (setUpNumber SetUp.Bad)
 
+-- The number of a refusal for the mode, from that of what a call finds before it looks at its request.
+abbrev pub refusalAfter : ℕ → ℕ
+refusalAfter n = cond (eqb n 0) (givenNumber Given.Unknown) n
+
 -- A call with its mode; with a number that is none, a refusal that leaves the handle and the words.
 abbrev pub withMode : {H W : Type 0} → (Mode → Done Outcome H W) → ℕ → H → W → Given → Done Outcome H W
 withMode call n h ws (Given.Mode mode) = call mode

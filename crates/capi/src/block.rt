@@ -4,7 +4,6 @@ use crate::modes::Given;
 use block_land::BlockLand;
 use block_land::Changed;
 use block_land::Found;
-use block_land::Look;
 use block_land::Opened;
 use units::Addr;
 use units::Aim;
@@ -16,7 +15,7 @@ ghost use Rattle.units.specs.declared.Which.{Which};
 ghost use Rattle.block_land.specs.Calls.{openedOf, openedWords, inserted, deleted, walked, changed, foundOf, foundNone};
 ghost use Rattle.block_land.specs.Layout.{setUp, sound};
 ghost use Rattle.capi.specs.Modes.{unknownMode};
-ghost use Rattle.capi.specs.BlockFinds.{foundBy, modeAnswer};
+ghost use Rattle.capi.specs.BlockFinds.{foundBy};
 
 #[no_mangle]
 pub extern "C" fn lg_block_open(base: u64, limit: u64, align: u64, nodes: &mut [u64]) -> Opened
@@ -39,24 +38,13 @@ pub extern "C" fn lg_block_delete(land: BlockLand, nodes: &mut [u64], range: Ran
     land.delete(nodes, range)
 }
 
-// The number that refuses a find whose mode is not known: 5, 6, or 4 for the mode.
-fn mode_answer(look: Look) -> u64
-    ensures { λ r. ⌜ r ≡ modeAnswer look ⌝ }
-{
-    match look {
-        Look::BadSetUp => 5,
-        Look::Damaged => 6,
-        Look::Sound(_) => 4,
-    }
-}
-
 // The refusal of a find whose mode is not known.
 pub fn refuse(land: BlockLand, nodes: &[u64]) -> Found
     ensures { λ r. ⌜ r ≡ foundNone land (unknownMode (setUp land (now (nodes .entry))) (sound land (now (nodes .entry)))) ⌝ }
 {
     Found {
         land,
-        answer: mode_answer(land.look(nodes, Aim::Nothing)),
+        answer: modes::refusal_after(land.look(nodes, Aim::Nothing).number()),
         range: Range::none(),
         old: Range::none(),
     }

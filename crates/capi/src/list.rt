@@ -4,7 +4,6 @@ use crate::modes::Given;
 use list_land::Changed;
 use list_land::Found;
 use list_land::ListLand;
-use list_land::Look;
 use list_land::Opened;
 use units::Addr;
 use units::Aim;
@@ -16,7 +15,7 @@ ghost use Rattle.units.specs.declared.Which.{Which};
 ghost use Rattle.list_land.specs.Calls.{openedOf, inserted, deleted, walked, changed, foundOf, foundNone};
 ghost use Rattle.list_land.specs.Layout.{setUp, sound};
 ghost use Rattle.capi.specs.Modes.{unknownMode};
-ghost use Rattle.capi.specs.ListFinds.{foundBy, modeAnswer};
+ghost use Rattle.capi.specs.ListFinds.{foundBy};
 
 #[no_mangle]
 pub extern "C" fn lg_list_open(base: u64, limit: u64, align: u64, words: &[u64]) -> Opened
@@ -39,24 +38,13 @@ pub extern "C" fn lg_list_delete(land: ListLand, words: &mut [u64], range: Range
     land.delete(words, range)
 }
 
-// The number that refuses a find whose mode is not known: 5, 6, or 4 for the mode.
-fn mode_answer(look: Look) -> u64
-    ensures { λ r. ⌜ r ≡ modeAnswer look ⌝ }
-{
-    match look {
-        Look::BadSetUp => 5,
-        Look::Damaged => 6,
-        Look::Sound(_) => 4,
-    }
-}
-
 // The refusal of a find whose mode is not known.
 pub fn refuse(land: ListLand, words: &[u64]) -> Found
     ensures { λ r. ⌜ r ≡ foundNone land (unknownMode (setUp land (now (words .entry))) (sound land (now (words .entry)))) ⌝ }
 {
     Found {
         land,
-        answer: mode_answer(land.look(words, Aim::Nothing)),
+        answer: modes::refusal_after(land.look(words, Aim::Nothing).number()),
         range: Range::none(),
         old: Range::none(),
     }

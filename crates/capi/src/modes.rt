@@ -1,7 +1,7 @@
 // The mode of a find, as a host in C gives it: a number.
 use units::Mode;
 ghost use mathlib.Core.Path.{_≡_};
-ghost use Rattle.capi.specs.Modes.{givenMode};
+ghost use Rattle.capi.specs.Modes.{givenMode, refusalAfter};
 
 // A mode, or a number that is none.
 pub enum Given {
@@ -20,4 +20,11 @@ pub fn mode_of(n: u64) -> Given
         3 => Given::Mode(Mode::Entire),
         _ => Given::Unknown,
     }
+}
+
+// The number that refuses a find whose mode is not known, from that of what the call found before: that one, or 4.
+pub fn refusal_after(number: u64) -> u64
+    ensures { λ r. ⌜ r ≡ refusalAfter number ⌝ }
+{
+    if number == 0 { 4 } else { number }
 }

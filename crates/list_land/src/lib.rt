@@ -22,7 +22,7 @@ ghost use mathlib.Core.Path.{_≡_};
 ghost use Rattle.units.specs.Rules.{goodAlign, setUpOf};
 ghost use Rattle.list_land.specs.Layout.{setUp};
 ghost use Rattle.list_land.specs.Calls.{refusedBy, changed, walked, openedOf};
-ghost use Rattle.list_land.specs.Parts.{arenaIn, chainIn, lookOf, closedWith};
+ghost use Rattle.list_land.specs.Parts.{arenaIn, chainIn, lookNumber, lookOf, closedWith};
 
 // The handle of a list land: its arena, the first range's base (or 0), the number of ranges and of free bytes.
 #[repr(C)]
@@ -64,6 +64,19 @@ pub enum Look {
     BadSetUp,
     Damaged,
     Sound(Spot),
+}
+
+impl Look {
+    // Document 01's number of what was found: 5, 6, or 0.
+    pub fn number(self) -> u64
+        ensures { λ r. ⌜ r ≡ lookNumber self ⌝ }
+    {
+        match self {
+            Look::BadSetUp => 5,
+            Look::Damaged => 6,
+            Look::Sound(_) => 0,
+        }
+    }
 }
 
 fn refused(land: ListLand, answer: u64) -> Changed

@@ -71,7 +71,7 @@ module _ {H L S C F : Type 0} (I : Land H L S C F) where
   number-is true false x = I .number-damaged
   number-is true true x = I .number-whole x
 
-  look-said : (h : H) (ws : List ℕ) (aim : Aim) → I .number (I .look h ws aim) ≡ said (I .set-up h ws) (I .sound h ws)
+  pub look-said : (h : H) (ws : List ℕ) (aim : Aim) → I .number (I .look h ws aim) ≡ said (I .set-up h ws) (I .sound h ws)
   look-said h ws aim = ap (I .number) (I .looks h ws aim) ∙ number-is (I .set-up h ws) (I .sound h ws) (I .keep aim (I .ranges h ws))
 
   -- the number of a look is the one that the handle and the words are read with
