@@ -9,10 +9,12 @@ use Rattle.units.specs.declared.Mode.{Mode}
 use Rattle.units.specs.declared.Range.{Range}
 use Rattle.units.specs.declared.Size.{Size}
 use Rattle.units.specs.declared.Which.{Which}
+use Rattle.model.proofs.WalkAnswers.{walk-words}
 use Rattle.list_land.specs.Calls.{LandDone, inserted, deleted, found, walked, changed, foundOf}
 use Rattle.list_land.specs.declared.Changed.{Changed}
 use Rattle.list_land.specs.declared.Found.{Found}
 use Rattle.list_land.specs.declared.ListLand.{ListLand}
+use Rattle.list_land.proofs.Land.{list-land}
 use Rattle.lines.specs.declared.Request.{Request}
 use Rattle.texts.specs.Decimal.{line}
 use Rattle.texts.specs.Writing.{Wrote}
@@ -21,13 +23,7 @@ use Rattle.script.specs.Feeding.{Says, Plays}
 use Rattle.script.specs.declared.Stage.{Stage}
 use Rattle.script.specs.declared.Turn.{Turn}
 use Rattle.script.proofs.Ways.{says}
-use Rattle.script.proofs.Describing.{walk-words, describes-fault, describes}
-
--- the three finds
-pub by-which : (h : ListLand) (ws : List ℕ) (w : Which) (n : ℕ) (m : Mode) (v : Which) (f : Found) (ws' : List ℕ) → w ≡ v →
-    (f ≡ foundOf (found h ws v n m)) × (ws' ≡ found h ws v n m .words) →
-    (f ≡ foundOf (found h ws w n m)) × (ws' ≡ found h ws w n m .words)
-by-which h ws w n m v f ws' e i = rw e i
+use Rattle.script.proofs.Describing.{describes-fault, describes}
 
 module _ {b a : List ℕ} {from : ℕ} (r : Turn) where
   changed-plays : (d : LandDone) (c : Changed) (ws' : List ℕ) → c ≡ changed d → ws' ≡ d .words →
@@ -59,7 +55,7 @@ module _ {b a : List ℕ} {from : ℕ} (r : Turn) where
 
     pub asked-walk : (x : Addr) → q ≡ Request.Walk x → (c : Changed) → c ≡ changed (walked h ws (x .0)) →
         Says (Stage.Open (c .land)) (line (c .answer ∷ c .range .base .0 ∷ c .range .limit .0 ∷ [])) b from a r → Plays (land-turn h ws q) ws b from a r
-    asked-walk x e c i s = rw e (changed-plays (walked h ws (x .0)) c ws i (walk-words h ws (x .0)) s)
+    asked-walk x e c i s = rw e (changed-plays (walked h ws (x .0)) c ws i (walk-words list-land h ws (x .0)) s)
 
     pub asked-describe : q ≡ Request.Describe → Plays (land-turn h ws Request.Describe) ws b from a r → Plays (land-turn h ws q) ws b from a r
     asked-describe e p = rw e p

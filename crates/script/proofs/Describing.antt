@@ -22,7 +22,7 @@ use Rattle.list_words.proofs.Laid.{lay-laid}
 use Rattle.list_land.specs.Calls.{walked}
 use Rattle.list_land.specs.Layout.{base, limit, arenaOf, setUp, sound, readOf, walkOf, closed, layout}
 use Rattle.list_land.specs.declared.ListLand.{ListLand}
-use Rattle.list_land.proofs.Answers.{is-walk}
+use Rattle.list_land.proofs.Land.{is-call}
 use Rattle.list_land.proofs.LayoutLaws.{reads-5, reads-6, held}
 use Rattle.list_land.proofs.Sound.{Fine, fine}
 use Rattle.texts.specs.Decimal.{line}
@@ -66,28 +66,19 @@ module _ (h : ListLand) (ws : List ℕ) (x : ℕ) where
   in-sound : setUp h ws ≡ true → sound h ws ≡ true → (o : Option Range) → next-from x (walkOf h ws .met) ≡ o → Met
   in-sound g s none e =
       let r = held h ws g s in
-      none-left (fine h ws g s) r e (is-walk h ws x ∙ call-refused layout (walk x) h ws (walkOf h ws .met) r 2 refl (rw e))
+      none-left (fine h ws g s) r e (is-call (walk x) h ws ∙ call-refused layout (walk x) h ws (walkOf h ws .met) r 2 refl (rw e))
   in-sound g s (some q) e =
       let r = held h ws g s in
       one-left q (fine h ws g s) r e
-      (is-walk h ws x ∙ call-accepted layout (walk x) h ws (walkOf h ws .met) r q (rng 0 0) (walkOf h ws .met) (walk-visits (arenaOf h) x (walkOf h ws .met) q e))
+      (is-call (walk x) h ws ∙ call-accepted layout (walk x) h ws (walkOf h ws .met) r q (rng 0 0) (walkOf h ws .met) (walk-visits (arenaOf h) x (walkOf h ws .met) q e))
 
   met : Met
   met =
       by (setUp h ws)
       (λ g. by (sound h ws)
       (λ s. in-sound g s (next-from x (walkOf h ws .met)) refl)
-      (λ s. let r = reads-6 h ws g s in bad 6 (omega arith) r (is-walk h ws x ∙ call-fault layout (walk x) h ws 6 r)))
-      (λ g. let r = reads-5 h ws g in bad 5 (omega arith) r (is-walk h ws x ∙ call-fault layout (walk x) h ws 5 r))
-
-  -- a walk leaves the words
-  pub walk-words : ws ≡ walked h ws x .words
-  walk-words = go met
-    where
-      go : Met → ws ≡ walked h ws x .words
-      go (bad n k r o) = rw o
-      go (none-left f r e o) = rw o
-      go (one-left q f r e o) = rw o (sym (lay-laid (base h) (walkOf h ws .met) ws (f .laid)))
+      (λ s. let r = reads-6 h ws g s in bad 6 (omega arith) r (is-call (walk x) h ws ∙ call-fault layout (walk x) h ws 6 r)))
+      (λ g. let r = reads-5 h ws g in bad 5 (omega arith) r (is-call (walk x) h ws ∙ call-fault layout (walk x) h ws 5 r))
 
   -- a walk that is answered 0 met the next range to print
   pub goes-on : walked h ws x .out .answer ≡ 0 →

@@ -10,5 +10,5 @@ use Rattle.script.specs.Sample.{Sample}
 
 pub sample-holds : Sample
 unfolding goodAlign arenaCheck rangeCheck largestCheck sizeCheck mayBegin mayEnd stepAt walkFor walkFrom soundWalk
-    land.setUp land.sound land.readOf calls.inserted calls.found calls.openedOf decimal line
+    land.setUp land.sound land.readOf calls.does calls.openedOf decimal line
 sample-holds = refl

@@ -7,15 +7,11 @@ use list_land::Found;
 use list_land::ListLand;
 use units::Addr;
 use units::Arena;
-use units::Mode;
-use units::Size;
-use units::Which;
 ghost use mathlib.Core.List.{[], _∷_};
 ghost use mathlib.Core.Path.{_≡_};
 ghost use Prim.Native.Nat.{_+_, _≤_};
 ghost use lib.ListN.{length, replicate};
 ghost use Rattle.units.specs.Words.{wordNumber};
-ghost use Rattle.list_land.specs.Calls.{found, foundOf};
 ghost use Rattle.list_land.specs.Layout.{readOf};
 ghost use Rattle.texts.specs.Decimal.{line};
 ghost use Rattle.script.specs.Printed.{question, arena-turn, land-turn, on-first, arena-words, turn-of, ranges-from};
@@ -98,16 +94,6 @@ fn put_found(f: Found, out: &mut [u8], at: usize) -> Turn
     }
 }
 
-fn find(land: ListLand, words: &mut [u64], which: Which, size: Size, mode: Mode) -> Found
-    ensures { λ r. ⌜ (r ≡ foundOf (found land (now (words .entry)) which (size .0) mode)) × (now (words .exit) ≡ found land (now (words .entry)) which (size .0) mode .words) ⌝ }
-{
-    match which {
-        Which::First => land.find_first(words, size, mode),
-        Which::Last => land.find_last(words, size, mode),
-        Which::Largest => land.find_largest(words, size, mode),
-    }
-}
-
 // The first line of a description.
 fn describe(land: ListLand, words: &[u64], out: &mut [u8], at: usize) -> Turn
     requires { ⌜ at + 105 ≤ length (now out) ⌝ }
@@ -137,11 +123,7 @@ fn ask(land: ListLand, words: &mut [u64], request: Request, out: &mut [u8], at: 
         Request::Arena(_, _, _) => unknown(Stage::Open(land), out, at),
         Request::Insert(range) => put_change(land.insert(words, range), out, at),
         Request::Delete(range) => put_change(land.delete(words, range), out, at),
-        Request::Find(which, size, mode) => put_found(
-            find(land, words, which, size, mode),
-            out,
-            at,
-        ),
+        Request::Find(which, size, mode) => put_found(land.find(words, which, size, mode), out, at),
         Request::Walk(from) => put_change(land.walk(words, from), out, at),
         Request::Describe => describe(land, words, out, at),
     }
