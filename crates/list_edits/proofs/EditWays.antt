@@ -3,7 +3,6 @@ use Prim.Native.Nat.{ℕ, _+_, _-_}
 use mathlib.Core.Bool.{Bool, true, false}
 use mathlib.Core.List.{List, [], append-nil}
 use mathlib.Core.Path.{_≡_, refl, sym, ap, ap₂, _∙_}
-use native.Mathlib.Omega.{arith}
 use lib.Dec.{eqb}
 use lib.ListN.{length}
 use Rattle.units.specs.Words.{rangeOf, one}
@@ -27,6 +26,7 @@ use Rattle.list_edits.specs.declared.Edited.{Edited}
 use Rattle.list_edits.specs.declared.Join.{Join}
 use Rattle.list_edits.specs.declared.Place.{Place}
 use Rattle.list_edits.proofs.Cutting.{cutEdit, held-cut}
+use Rattle.list_edits.proofs.Following.{follows-placed}
 use Rattle.list_edits.proofs.Inserting.{insert-overlap, insert-clear, Landed, landed}
 use Rattle.list_edits.proofs.Sound.{Fine, fine}
 use Rattle.list_edits.proofs.Standing.{Stand, stand}
@@ -63,26 +63,20 @@ module _ (a : Arena) (ws : List ℕ) (c : Chain) (y : Range) (s : Spot) (k : Hel
   stands : Stand a ws c y s
   stands = stand a ws c fit y s (rules .from) (rules .order) k
 
+  -- the spot is that of the first range that reaches the base
+  reached : Placed (metOf a ws c) (reach (y .base .0) (metOf a ws c)) s
+  reached = rw (← k .kept) at (kept-reach (a .base .0) (a .limit .0) (metOf a ws c) (fit .place .arena .above) (fit .apart) (y .base))
+
   -- the spot after the one given can be read
-  pub put-placing : Placing a (length ws) y s
-  put-placing =
-      let r = rules in
-      let top = fit .place .arena .top in
-      record {
-        following = λ e. record {
-          ready = k .ready;
-          above = omega (arith, r .from);
-          small = omega (arith, r .order, r .upto, top);
-        };
-      }
+  pub put-placing : Placing a ws y s
+  put-placing = record { following = λ e. follows-placed a ws c fit s (reach (y .base .0) (metOf a ws c)) reached }
 
   -- no range reaches the base
   pub at-none : (r : Bool) → r ≡ eqb (s .here .base .0) 0 → r ≡ true → false ≡ overlaps (y .base .0) (y .limit .0) (metOf a ws c)
   at-none r er t =
       let b = y .base .0 in
       let met = metOf a ws c in
-      let p : Placed met (reach b met) s = rw (← k .kept) at (kept-reach (a .base .0) (a .limit .0) met (fit .place .arena .above) (fit .apart) (y .base)) in
-      let f = reach-none b (a .base .0) (a .limit .0) met (fit .apart) (none-there met (reach b met) s p r er t) in
+      let f = reach-none b (a .base .0) (a .limit .0) met (fit .apart) (none-there met (reach b met) s reached r er t) in
       sym (ap (overlaps b (y .limit .0)) (sym (append-nil met)) ∙ overlaps-front b (y .limit .0) (rules .order) met [] f)
 
   module _ (p : Place) (ep : p ≡ placeOf a ws y s) where
