@@ -14,30 +14,28 @@ use Rattle.list_words.specs.Surveys.{spot}
 use Rattle.list_words.specs.declared.Descriptor.{Descriptor}
 use Rattle.list_words.specs.declared.Spot.{Spot}
 use Rattle.list_edits.specs.Places.{Following, followingOf, joinOf, Placing, placeOf}
-use Rattle.list_edits.specs.declared.Place.{Place}
+use Rattle.list_edits.specs.declared.Join.{Join}
 
 -- BEFORE THE RANGE ABOVE
 module _ (p f : Range) (joins : ℕ) (s : Spot) (r : Bool) (e : r ≡ eqb (s .here .base .0) 0) where
-  pub before-none : r ≡ true → Place.Free (record { prev = p; fresh = f; next = s .next; joins = joins }) ≡ joinOf p f joins s
+  pub before-none : r ≡ true → record { prev = p; fresh = f; next = s .next; joins = joins; overlaps = false } ≡ joinOf p f joins s
   before-none t = rw (sym e ∙ t)
 
-  module _ (t : r ≡ false) (u : Bool) (eu : u ≡ ltb (s .here .base .0) (f .limit .0)) where
+  module _ (t : r ≡ false) (v : Bool) (ev : v ≡ eqb (s .here .base .0) (f .limit .0)) where
     some : isNone (s .here) ≡ false
     some = sym e ∙ t
 
-    pub before-overlap : u ≡ true → Place.Overlap ≡ joinOf p f joins s
-    before-overlap fu = rw (some, sym eu ∙ fu)
+    pub before-touching : v ≡ true → (w : Range) → w ≡ rangeOf (f .base .0) (s .here .limit .0) →
+        record { prev = p; fresh = w; next = s .next; joins = joins + 1; overlaps = false } ≡ joinOf p f joins s
+    before-touching fv w ew =
+        rw (some, sym ev ∙ fv) (ap (λ (x : Range). record { prev = p; fresh = x; next = s .next; joins = joins + 1; overlaps = false }) ew)
 
-    module _ (fu : u ≡ false) (v : Bool) (ev : v ≡ eqb (s .here .base .0) (f .limit .0)) where
-      pub before-touching : v ≡ true → (w : Range) → w ≡ rangeOf (f .base .0) (s .here .limit .0) →
-          Place.Free (record { prev = p; fresh = w; next = s .next; joins = joins + 1 }) ≡ joinOf p f joins s
-      before-touching fv w ew =
-          rw (some, sym eu ∙ fu, sym ev ∙ fv) (ap (λ (x : Range). Place.Free (record { prev = p; fresh = x; next = s .next; joins = joins + 1 })) ew)
+    pub before-apart : v ≡ false → (u : Bool) → u ≡ ltb (s .here .base .0) (f .limit .0) →
+        record { prev = p; fresh = f; next = s .here .base; joins = joins; overlaps = u } ≡ joinOf p f joins s
+    before-apart fv u eu =
+        rw (some, sym ev ∙ fv) (ap (λ (x : Bool). record { prev = p; fresh = f; next = s .here .base; joins = joins; overlaps = x }) eu)
 
-      pub before-apart : v ≡ false → Place.Free (record { prev = p; fresh = f; next = s .here .base; joins = joins }) ≡ joinOf p f joins s
-      before-apart fv = rw (some, sym eu ∙ fu, sym ev ∙ fv)
-
-pub ruleset before-ways = (before-none, before-overlap, before-touching, before-apart)
+pub ruleset before-ways = (before-none, before-touching, before-apart)
 
 -- THE SPOT AFTER A SPOT
 module _ (a : Arena) (ws : List ℕ) (s : Spot) (r : Bool) (e : r ≡ eqb (s .next .0) 0) where
@@ -64,11 +62,11 @@ module _ (a : Arena) (ws : List ℕ) (y : Range) (s : Spot) (r : Bool) (e : r �
   place-following t p = p .following (eqb-true (s .here .limit .0) (y .base .0) (sym e ∙ t))
 
   pub place-touching : r ≡ true → (above : Spot) → above ≡ followingOf a ws s → (w : Range) → w ≡ rangeOf (s .here .base .0) (y .limit .0) →
-      (m : Place) → m ≡ joinOf (s .prev) w 1 above → m ≡ placeOf a ws y s
+      (m : Join) → m ≡ joinOf (s .prev) w 1 above → m ≡ placeOf a ws y s
   unfolding placeOf
   place-touching t above ea w ew m em = rw (sym e ∙ t) (em ∙ ap₂ (λ (x : Range) (v : Spot). joinOf (s .prev) x 1 v) ew ea)
 
-  pub place-other : r ≡ false → (m : Place) → m ≡ joinOf (s .prev) y 0 s → m ≡ placeOf a ws y s
+  pub place-other : r ≡ false → (m : Join) → m ≡ joinOf (s .prev) y 0 s → m ≡ placeOf a ws y s
   unfolding placeOf
   place-other t m em = rw (sym e ∙ t) em
 

@@ -11,7 +11,7 @@ use Rattle.units.specs.Aims.{isNone, none-range}
 use Rattle.list_words.specs.declared.Spot.{Spot}
 use Rattle.list_words.specs.Descriptors.{Standing, descriptorAt}
 use Rattle.list_words.specs.Surveys.{spot}
-use Rattle.list_edits.specs.declared.Place.{Place}
+use Rattle.list_edits.specs.declared.Join.{Join}
 
 -- The range behind a spot, if there is one, has its descriptor in the arena.
 pub record Following (a : Arena) (ws : List ℕ) (s : Spot) : Type 0 where
@@ -23,26 +23,20 @@ followingOf a ws s =
     cond (eqb (s .next .0) 0) (spot (s .here) none-range (s .next))
     (spot (s .here) (rangeOf (s .next .0) (descriptorAt a ws (s .next .0) .limit .0)) (descriptorAt a ws (s .next .0) .next))
 
--- Document 01's number of each case: 1 where some byte is already free.
-abbrev pub placeNumber : Place → ℕ
-placeNumber Place.Overlap = 1
-placeNumber (Place.Free j) = 0
-
 -- The place of a fresh range before the range above it.
-abbrev pub free : Range → Range → Spot → ℕ → Place
-free p f s joins = Place.Free (record { prev = p; fresh = f; next = s .next; joins = joins })
+abbrev pub free : Range → Range → Spot → ℕ → Join
+free p f s joins = record { prev = p; fresh = f; next = s .next; joins = joins; overlaps = false }
 
-abbrev pub joinOf : Range → Range → ℕ → Spot → Place
+abbrev pub joinOf : Range → Range → ℕ → Spot → Join
 joinOf p f joins s =
     cond (isNone (s .here)) (free p f s joins)
-    (cond (ltb (s .here .base .0) (f .limit .0)) Place.Overlap
     (cond (eqb (s .here .base .0) (f .limit .0)) (free p (rangeOf (f .base .0) (s .here .limit .0)) s (joins + 1))
-    (Place.Free (record { prev = p; fresh = f; next = s .here .base; joins = joins }))))
+    (record { prev = p; fresh = f; next = s .here .base; joins = joins; overlaps = ltb (s .here .base .0) (f .limit .0) }))
 
 pub record Placing (a : Arena) (ws : List ℕ) (y : Range) (s : Spot) : Type 0 where
   pub following : s .here .limit .0 ≡ y .base .0 → Following a ws s
 
-unfoldable pub placeOf : Arena → List ℕ → Range → Spot → Place
+unfoldable pub placeOf : Arena → List ℕ → Range → Spot → Join
 placeOf a ws y s =
     cond (eqb (s .here .limit .0) (y .base .0))
     (joinOf (s .prev) (rangeOf (s .here .base .0) (y .limit .0)) 1 (followingOf a ws s))

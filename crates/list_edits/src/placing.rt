@@ -1,6 +1,5 @@
 // The place of a range in a sound list, joined with the ranges that it touches.
 use crate::Join;
-use crate::Place;
 use list_words::Spot;
 use units::Arena;
 use units::Range;
@@ -8,8 +7,8 @@ ghost use mathlib.Core.Path.{_≡_};
 ghost use Prim.Native.Nat.{_≤_};
 ghost use Rattle.list_edits.specs.Places.{Following, followingOf, joinOf, Placing, placeOf};
 
-// The place of a fresh range before the range above it, which may touch it.
-fn place_before(prev: Range, fresh: Range, joins: u64, above: Spot) -> Place
+// The place of a fresh range before the range above it, which may touch it or overlap it.
+fn place_before(prev: Range, fresh: Range, joins: u64, above: Spot) -> Join
     requires { ⌜ joins ≤ 1 ⌝ }
     ensures { λ r. ⌜ r ≡ joinOf prev fresh joins above ⌝ }
 {
@@ -17,30 +16,30 @@ fn place_before(prev: Range, fresh: Range, joins: u64, above: Spot) -> Place
     let next = above.next;
     let base = up.base;
     if base.is_zero() {
-        return Place::Free(Join {
+        return Join {
             prev,
             fresh,
             next,
             joins,
-        });
-    }
-    if base.lt(fresh.limit) {
-        return Place::Overlap;
+            overlaps: false,
+        };
     }
     if base.same(fresh.limit) {
-        return Place::Free(Join {
+        return Join {
             prev,
             fresh: Range::new(fresh.base, up.limit),
             next,
             joins: joins + 1,
-        });
+            overlaps: false,
+        };
     }
-    Place::Free(Join {
+    Join {
         prev,
         fresh,
         next: base,
         joins,
-    })
+        overlaps: base.lt(fresh.limit),
+    }
 }
 
 // The spot after a spot of a sound list.
@@ -64,7 +63,7 @@ fn following(arena: Arena, words: &[u64], spot: Spot) -> Spot
 }
 
 // The place of a range at the first range of a sound list that reaches its base.
-pub(crate) fn place(arena: Arena, words: &[u64], range: Range, spot: Spot) -> Place
+pub(crate) fn place(arena: Arena, words: &[u64], range: Range, spot: Spot) -> Join
     requires { ⌜ Placing arena (now words) range spot ⌝ }
     ensures { λ r. ⌜ r ≡ placeOf arena (now (words .entry)) range spot ⌝ }
 {
