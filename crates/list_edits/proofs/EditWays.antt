@@ -2,8 +2,7 @@
 use Prim.Native.Nat.{ℕ, _+_, _-_}
 use mathlib.Core.Bool.{Bool, true, false}
 use mathlib.Core.List.{List, [], append-nil}
-use mathlib.Core.Path.{_≡_, refl, sym, ap, ap₂, _∙_}
-use native.Mathlib.Omega.{arith}
+use mathlib.Core.Path.{_≡_, sym, ap, ap₂, _∙_}
 use lib.Dec.{eqb}
 use lib.ListN.{length}
 use Rattle.units.specs.Words.{rangeOf, one}
@@ -19,15 +18,16 @@ use Rattle.model.proofs.Reaching.{reach, reach-none}
 use Rattle.list_words.proofs.Keeping.{Placed, none-there, kept-reach}
 use Rattle.list_words.specs.declared.Chain.{Chain}
 use Rattle.list_words.specs.declared.Spot.{Spot}
-use Rattle.list_edits.specs.Chains.{metOf, Held, mayAsk, Holding, editedNumber, putOf, putWords, cutChain, cutWords}
+use Rattle.list_edits.specs.Chains.{metOf, Held, mayAsk, Holding, joinedOf, joinedWords, putOf, putWords, cutChain, cutWords}
 use Rattle.list_edits.specs.Edits.{EditRoom, storeHead, storeWords}
 use Rattle.list_edits.specs.Joins.{joinEdit, Putting, joinDone}
-use Rattle.list_edits.specs.Places.{Placing, placeNumber, placeOf}
+use Rattle.list_edits.specs.Places.{Placing, placeOf}
 use Rattle.list_edits.specs.declared.Edited.{Edited}
 use Rattle.list_edits.specs.declared.Join.{Join}
-use Rattle.list_edits.specs.declared.Place.{Place}
+use Rattle.list_edits.specs.declared.Joined.{Joined}
 use Rattle.list_edits.proofs.Cutting.{cutEdit, held-cut}
-use Rattle.list_edits.proofs.Inserting.{insert-overlap, insert-clear, Landed, landed}
+use Rattle.list_edits.proofs.Following.{follows-placed}
+use Rattle.list_edits.proofs.Inserting.{insert-meets, Landed, landed}
 use Rattle.list_edits.proofs.Sound.{Fine, fine}
 use Rattle.list_edits.proofs.Standing.{Stand, stand}
 
@@ -41,11 +41,11 @@ module _ (b : ℕ) (ws : List ℕ) (c : Chain) (y : Range) (j : Join) (v : Range
 
   pub put-chain : (z t : Size) → z .0 ≡ y .limit .0 - y .base .0 → t .0 ≡ c .bytes .0 + z .0 →
       (hd : Addr) → hd ≡ storeHead (c .head) (record { prev = j .prev; low = j .fresh; high = v; next = j .next }) →
-      Edited.Done (record { head = hd; ranges = c .ranges + 1 - j .joins; bytes = t }) (j .fresh) ≡ joinDone c y j
+      record { chain = record { head = hd; ranges = c .ranges + 1 - j .joins; bytes = t }; range = j .fresh } ≡ joinDone c y j
   put-chain z t ez et hd p =
       let e : t .0 ≡ c .bytes .0 + (y .limit .0 - y .base .0) = et ∙ ap (λ (n : ℕ). c .bytes .0 + n) ez in
       let g : hd ≡ storeHead (c .head) (joinEdit j) = p ∙ ap (storeHead (c .head)) put-same in
-      ap₂ (λ (x : Addr) (n : ℕ). Edited.Done (record { head = x; ranges = c .ranges + 1 - j .joins; bytes = record { 0 = n } }) (j .fresh)) g e
+      λ i. record { chain = record { head = g i; ranges = c .ranges + 1 - j .joins; bytes = record { 0 = e i } }; range = j .fresh }
 
   pub put-words : (ws' : List ℕ) → ws' ≡ storeWords b ws (record { prev = j .prev; low = j .fresh; high = v; next = j .next }) → ws' ≡ storeWords b ws (joinEdit j)
   put-words ws' p = p ∙ ap (storeWords b ws) put-same
@@ -63,60 +63,55 @@ module _ (a : Arena) (ws : List ℕ) (c : Chain) (y : Range) (s : Spot) (k : Hel
   stands : Stand a ws c y s
   stands = stand a ws c fit y s (rules .from) (rules .order) k
 
+  -- the spot is that of the first range that reaches the base
+  reached : Placed (metOf a ws c) (reach (y .base .0) (metOf a ws c)) s
+  reached = rw (← k .kept) at (kept-reach (a .base .0) (a .limit .0) (metOf a ws c) (fit .place .arena .above) (fit .apart) (y .base))
+
   -- the spot after the one given can be read
-  pub put-placing : Placing a (length ws) y s
-  put-placing =
-      let r = rules in
-      let top = fit .place .arena .top in
-      record {
-        following = λ e. record {
-          ready = k .ready;
-          above = omega (arith, r .from);
-          small = omega (arith, r .order, r .upto, top);
-        };
-      }
+  pub put-placing : Placing a ws y s
+  put-placing = record { following = λ e. follows-placed a ws c fit s (reach (y .base .0) (metOf a ws c)) reached }
 
   -- no range reaches the base
   pub at-none : (r : Bool) → r ≡ eqb (s .here .base .0) 0 → r ≡ true → false ≡ overlaps (y .base .0) (y .limit .0) (metOf a ws c)
   at-none r er t =
       let b = y .base .0 in
       let met = metOf a ws c in
-      let p : Placed met (reach b met) s = rw (← k .kept) at (kept-reach (a .base .0) (a .limit .0) met (fit .place .arena .above) (fit .apart) (y .base)) in
-      let f = reach-none b (a .base .0) (a .limit .0) met (fit .apart) (none-there met (reach b met) s p r er t) in
+      let f = reach-none b (a .base .0) (a .limit .0) met (fit .apart) (none-there met (reach b met) s reached r er t) in
       sym (ap (overlaps b (y .limit .0)) (sym (append-nil met)) ∙ overlaps-front b (y .limit .0) (rules .order) met [] f)
 
-  module _ (p : Place) (ep : p ≡ placeOf a ws y s) where
-    pub at-overlap : p ≡ Place.Overlap → true ≡ overlaps (y .base .0) (y .limit .0) (metOf a ws c)
-    at-overlap f = sym (insert-overlap a ws c fit y s rules stands (sym ep ∙ f))
+  module _ (j : Join) (ej : j ≡ placeOf a ws y s) where
+    pub at-place : j .overlaps ≡ overlaps (y .base .0) (y .limit .0) (metOf a ws c)
+    at-place = ap (λ (v : Join). v .overlaps) ej ∙ sym (insert-meets a ws c fit y s rules stands)
 
-    pub at-free : (j : Join) → p ≡ Place.Free j → false ≡ overlaps (y .base .0) (y .limit .0) (metOf a ws c)
-    at-free j f = sym (insert-clear a ws c fit y s rules stands j (sym ep ∙ f))
-
-    pub put-refused : p ≡ Place.Overlap → (Edited.Refused ≡ putOf (metOf a ws c) y) × (ws ≡ putWords (metOf a ws c) y (a .base .0) ws)
+    pub put-refused : j .overlaps ≡ true → (Edited.Refused ≡ putOf (metOf a ws c) y) × (ws ≡ putWords (metOf a ws c) y (a .base .0) ws)
     unfolding putOf putWords
-    put-refused f = let o = insert-overlap a ws c fit y s rules stands (sym ep ∙ f) in (rw o, rw o)
+    put-refused f = let o = sym at-place ∙ f in (rw o, rw o)
 
-    module _ (j : Join) (f : p ≡ Place.Free j) where
-      done : Landed a ws c fit y s rules stands j (sym ep ∙ f)
-      done = landed a ws c fit y s rules stands j (sym ep ∙ f)
+    -- it overlaps none
+    module _ (o : overlaps (y .base .0) (y .limit .0) (metOf a ws c) ≡ false) where
+      done : Landed a ws c fit y s rules stands j ej o
+      done = landed a ws c fit y s rules stands j ej o
+
+      pub join-putting : Putting (a .base .0) (length ws) c y j
+      join-putting = done .ready
+
+      pub join-done : (w : Joined) (ws' : List ℕ) → (w ≡ joinDone c y j) × (ws' ≡ storeWords (a .base .0) ws (joinEdit j)) →
+          (w ≡ joinedOf (metOf a ws c) y) × (ws' ≡ joinedWords (metOf a ws c) y (a .base .0) ws)
+      join-done w ws' q = (q .0 ∙ done .gives, q .1 ∙ done .words)
+
+    module _ (f : j .overlaps ≡ false) where
+      clear : overlaps (y .base .0) (y .limit .0) (metOf a ws c) ≡ false
+      clear = sym at-place ∙ f
 
       pub put-putting : Putting (a .base .0) (length ws) c y j
-      put-putting = done .ready
+      put-putting = join-putting clear
 
-      pub put-done : (w : Edited) (ws' : List ℕ) → (w ≡ joinDone c y j) × (ws' ≡ storeWords (a .base .0) ws (joinEdit j)) →
-          (w ≡ putOf (metOf a ws c) y) × (ws' ≡ putWords (metOf a ws c) y (a .base .0) ws)
+      pub put-done : (w : Joined) (ws' : List ℕ) → (w ≡ joinDone c y j) × (ws' ≡ storeWords (a .base .0) ws (joinEdit j)) →
+          (Edited.Done (w .chain) (w .range) ≡ putOf (metOf a ws c) y) × (ws' ≡ putWords (metOf a ws c) y (a .base .0) ws)
       unfolding putOf putWords
       put-done w ws' q =
-          let o = insert-clear a ws c fit y s rules stands j (sym ep ∙ f) in
-          (rw o (q .0 ∙ done .gives), rw o (q .1 ∙ done .words))
-
-  -- the number of a place is the number of the edit
-  number-of : (p : Place) → p ≡ placeOf a ws y s → placeNumber p ≡ editedNumber (putOf (metOf a ws c) y)
-  number-of Place.Overlap ep = ap editedNumber (put-refused Place.Overlap ep refl .0)
-  number-of (Place.Free j) ep = ap editedNumber (put-done (Place.Free j) ep j refl (joinDone c y j) (storeWords (a .base .0) ws (joinEdit j)) (refl, refl) .0)
-
-  pub place-number : placeNumber (placeOf a ws y s) ≡ editedNumber (putOf (metOf a ws c) y)
-  place-number = number-of (placeOf a ws y s) refl
+          let d = join-done clear w ws' q in
+          (rw clear (ap (λ (v : Joined). Edited.Done (v .chain) (v .range)) (d .0)), rw clear (d .1))
 
 -- A PART TAKEN OUT
 module _ (a : Arena) (ws : List ℕ) (c : Chain) (s : Spot) (y : Range) (k : Holding a ws c s y) (u v : Range)

@@ -1,13 +1,13 @@
 -- An insertion in a sound list: the stores and the chain are those of the list with the range in it. Assumes nothing.
 use Prim.Native.Nat.{ℕ, _+_, _-_, _<_, _≤_}
-use mathlib.Core.Bool.{true, false}
+use mathlib.Core.Bool.{false}
 use mathlib.Core.List.{List, _∷_, _++_}
 use mathlib.Core.Path.{_≡_, sym, ap, _∙_}
 use native.Mathlib.Omega.{arith}
 use lib.ListN.{length, length-append}
 use borrow.Author.Tests.{lt-ltb, le-ltb}
 use Rattle.units.specs.declared.Range as units
-use Rattle.units.specs.Words.{addr}
+use Rattle.units.specs.Words.{addr, rangeOf}
 use Rattle.units.specs.declared.rules.Arena.{Arena}
 use Rattle.units.proofs.Alignments.{multiple-8}
 use Rattle.units.proofs.Facts.{GoodRange}
@@ -22,14 +22,12 @@ use Rattle.list_words.specs.declared.Spot.{Spot}
 use Rattle.list_words.proofs.Laid.{Laid}
 use Rattle.list_edits.proofs.Editing.{edited, Stored, stored}
 use Rattle.list_words.specs.declared.Chain.{Chain}
-use Rattle.list_edits.specs.Places.{placeOf}
+use Rattle.list_edits.specs.Places.{joinOf, placeOf}
 use Rattle.list_edits.specs.Joins.{joinEdit, Putting, joinDone}
-use Rattle.list_edits.specs.Chains.{metOf, chainOf}
-use Rattle.list_edits.specs.declared.Edited.{Edited}
+use Rattle.list_edits.specs.Chains.{metOf, joinedOf}
 use Rattle.list_edits.specs.declared.Join.{Join}
-use Rattle.list_edits.specs.declared.Place.{Place}
 use Rattle.list_edits.proofs.Sound.{Fine, small}
-use Rattle.list_edits.proofs.Joining.{Joined, joins-free, joins-overlap}
+use Rattle.list_edits.proofs.Joining.{Joined, joins-free, joins-meets}
 use Rattle.list_edits.proofs.Standing.{Stand}
 
 module _ (a : Arena) (ws : List ℕ) (c : Chain) (f : Fine a ws c) (y : units.Range) (s : Spot) (rules : GoodRange (a .base .0) (a .limit .0) (a .align .0) (y .base .0) (y .limit .0))
@@ -43,26 +41,25 @@ module _ (a : Arena) (ws : List ℕ) (c : Chain) (f : Fine a ws c) (y : units.Ra
   abbrev met : List Range
   met = metOf a ws c
 
-  -- the request overlaps a range of the list
-  pub insert-overlap : placeOf a ws y s ≡ Place.Overlap → overlaps b l met ≡ true
-  insert-overlap e =
+  -- whether the request overlaps a range of the list
+  pub insert-meets : overlaps (y .base .0) (y .limit .0) (metOf a ws c) ≡ placeOf a ws y s .overlaps
+  insert-meets =
       rw (t .split) (overlaps-front b l (rules .order) (t .front) (t .old) (t .below)
       ∙ t .meets
-      ∙ joins-overlap (a .base .0) (t .x) b l ws (s .prev) (t .joins) (t .start) (rules .order) (t .lo) (a .limit .0) (t .ups) (t .above) (t .apart) (t .laid) (t .at-ups) (t .over)
-      (sym (t .place) ∙ e))
+      ∙ joins-meets (a .base .0) (t .x) b l ws (s .prev) (t .joins) (t .start) (rules .order) (t .lo) (a .limit .0) (t .ups) (t .above) (t .apart) (t .at-ups) (t .over)
+      ∙ ap (λ (v : Join). v .overlaps) (sym (t .place)))
 
-  module _ (j : Join) (e : placeOf a ws y s ≡ Place.Free j) where
+  -- no byte of the request is free
+  module _ (j : Join) (e : j ≡ placeOf a ws y s) (clear : overlaps (y .base .0) (y .limit .0) (metOf a ws c) ≡ false) where
     joined : Joined (a .base .0) (t .x) b l ws (s .prev) (t .joins) (t .ups) j
     joined =
-        joins-free (a .base .0) (t .x) b l ws (s .prev) (t .joins) (t .start) (rules .order) (t .lo) (a .limit .0) (t .ups) (t .above) (t .apart) (t .laid) (t .at-ups) j
-        (sym (t .place) ∙ e)
+        let p : j ≡ joinOf (s .prev) (rangeOf (t .x) l) (t .joins) (t .above) = e ∙ t .place in
+        let o : joinOf (s .prev) (rangeOf (t .x) l) (t .joins) (t .above) .overlaps ≡ false = ap (λ (v : Join). v .overlaps) (sym (t .place)) ∙ sym insert-meets ∙ clear in
+        rw p
+        (joins-free (a .base .0) (t .x) b l ws (s .prev) (t .joins) (t .start) (rules .order) (t .lo) (a .limit .0) (t .ups) (t .above) (t .apart) (t .laid) (t .at-ups) o)
 
     fresh : Range
     fresh = plain (j .fresh)
-
-    -- no byte of the request is free
-    pub insert-clear : overlaps b l met ≡ false
-    insert-clear = rw (t .split) (overlaps-front b l (rules .order) (t .front) (t .old) (t .below) ∙ t .meets ∙ joined .clear)
 
     insert-new : insert-in b l met ≡ t .front ++ plain (j .fresh) ∷ joined .tail
     insert-new =
@@ -86,7 +83,7 @@ module _ (a : Arena) (ws : List ℕ) (c : Chain) (f : Fine a ws c) (y : units.Ra
         stored (a .base .0) (a .limit .0) (length ws) (f .base8) (f .place .words) (g .top) (joinEdit j) (joined .tail) (joined .next) ws (c .head) (t .old)
         (g .above) (joined .laid) (t .front) (rw (joined .prev) (t .last))
         (let u : head-of (t .front ++ t .old) ≡ c .head .0 = rw (t .split) at (f .head) in ap addr (sym u)) laid
-        (rw (insert-edited, ← insert-new) (insert-apart b l (a .base .0) (a .limit .0) met (rules .from) (rules .order) (rules .upto) insert-clear (f .apart)))
+        (rw (insert-edited, ← insert-new) (insert-apart b l (a .base .0) (a .limit .0) met (rules .from) (rules .order) (rules .upto) clear (f .apart)))
         (rw (insert-edited, ← insert-new) (insert-aligned 8 b l met b8 l8 (f .aligned)))
 
     insert-count : (c .ranges + 1 - j .joins ≡ length (insert-in b l met)) × (j .joins ≤ c .ranges + 1)
@@ -112,7 +109,7 @@ module _ (a : Arena) (ws : List ℕ) (c : Chain) (f : Fine a ws c) (y : units.Ra
     -- what an insertion comes to
     pub record Landed : Type 0 where
       pub ready : Putting (a .base .0) (length ws) c y j
-      pub gives : joinDone c y j ≡ Edited.Done (chainOf (insert-in b l met)) (struct (holder b l (insert-in b l met)))
+      pub gives : joinDone c y j ≡ joinedOf met y
       pub words : storeWords (a .base .0) ws (joinEdit j) ≡ lay (a .base .0) (insert-in b l met) ws
 
     pub landed : Landed
@@ -129,6 +126,6 @@ module _ (a : Arena) (ws : List ℕ) (c : Chain) (f : Fine a ws c) (y : units.Ra
         let upto = rules .upto in
         record {
           ready = record { room = q .room; order = omega arith; count = omega (arith, k .count); joins = n .1; bytes = omega (arith, k .bytes) };
-          gives = λ i. Edited.Done (record { head = hd i; ranges = n .0 i; bytes = record { 0 = d i } }) (r i);
+          gives = λ i. record { chain = record { head = hd i; ranges = n .0 i; bytes = record { 0 = d i } }; range = r i };
           words = q .words ∙ ap (λ (xs : List Range). lay (a .base .0) xs ws) u;
         }

@@ -4,6 +4,7 @@ pub mod Editing
 pub mod PlaceWays
 pub mod Sound
 pub mod Joining
+pub mod Following
 pub mod Standing
 pub mod Inserting
 pub mod Cutting

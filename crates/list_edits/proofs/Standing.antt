@@ -3,29 +3,28 @@ use Prim.Native.Nat.{ℕ, suc, _+_, _-_, _<_, _≤_}
 use mathlib.Core.Bool.{true, false, and-false}
 use mathlib.Core.List.{List, [], _∷_, _++_, append-nil}
 use mathlib.Core.Option.{Option, none, some}
-use mathlib.Core.Path.{_≡_, refl, sym, ap, _∙_}
+use mathlib.Core.Path.{_≡_, refl, sym, ap}
 use native.Mathlib.Omega.{arith}
 use lib.Dec.{eqb}
 use lib.ListN.{length}
 use borrow.Author.Tests.{ne-eqb, le-ltb, eqb-true}
-use Rattle.units.specs.Words.{rangeOf, addr}
+use Rattle.units.specs.Words.{rangeOf}
 use Rattle.units.specs.declared.Range as units
 use Rattle.units.specs.declared.aims.Aim.{Aim}
 use Rattle.units.specs.declared.rules.Arena.{Arena}
 use Rattle.units.proofs.Tests.{by, tests}
 use Rattle.model.specs.Marks.{Range}
-use Rattle.model.specs.Lists.{Apart, Aligned, total, overlaps, insert-in}
-use Rattle.model.proofs.Places.{Before, apart-rest, aligned-rest, insert-below}
+use Rattle.model.specs.Lists.{Apart, total, overlaps, insert-in}
+use Rattle.model.proofs.Places.{Before, apart-rest, insert-below}
 use Rattle.model.proofs.Reaching.{reach, reach-none, reach-some}
 use Rattle.list_edits.specs.Places.{followingOf, joinOf, placeOf}
-use Rattle.list_words.specs.Laying.{head-of}
 use Rattle.list_words.specs.declared.Spot.{Spot}
 use Rattle.list_words.proofs.Keeping.{Last, At, Behind, Placed, kept-reach}
-use Rattle.list_words.proofs.Laid.{Laid, laid-rest, even-head}
-use Rattle.list_words.proofs.Meeting.{told-step}
+use Rattle.list_words.proofs.Laid.{Laid}
 use Rattle.list_words.specs.declared.Chain.{Chain}
 use Rattle.list_edits.specs.Chains.{metOf, Held}
 use Rattle.list_edits.proofs.Joining.{Above, Over}
+use Rattle.list_edits.proofs.Following.{here, laid-here, follows}
 use Rattle.list_edits.proofs.Sound.{Fine}
 
 -- the request y goes behind front, as [x, limit) before ups, where old stood
@@ -92,17 +91,11 @@ module _ (a : Arena) (ws : List ℕ) (c : Chain) (f : Fine a ws c) (y : units.Ra
       }
 
   module _ (q : Range) (p : At met q s) (k : Before b (p .front)) (reaches : b ≤ q .limit) where
-    here : Apart (a .base .0) (a .limit .0) (p .front ++ q ∷ p .rest)
-    here = rw (p .split) at (f .apart)
-
-    laid-here : Laid (a .base .0) (q ∷ p .rest) ws
-    laid-here = laid-rest (a .base .0) ws (p .front) (q ∷ p .rest) (rw (p .split) at (f .laid))
-
     -- before a range that ends above its base
     stand-before : eqb (q .limit) b ≡ false → Stand a ws c y s
     unfolding placeOf
     stand-before t =
-        let pr = apart-rest (a .base .0) (a .limit .0) (p .front) q (p .rest) here in
+        let pr = apart-rest (a .base .0) (a .limit .0) (p .front) q (p .rest) (here a ws c f s q p) in
         let z : eqb (s .here .limit .0) b ≡ false = rw (p .here) t in
         record {
           front = p .front;
@@ -122,34 +115,17 @@ module _ (a : Arena) (ws : List ℕ) (c : Chain) (f : Fine a ws c) (y : units.Ra
           one-more = omega arith;
           lo = q .base;
           apart = (omega arith, pr .1, pr .2, pr .3);
-          laid = laid-here;
+          laid = laid-here a ws c f s q p;
           at-ups = (p .here, p .next, p .above);
           over = omega tests;
           place = rw z;
         }
 
-    -- the spot after q
-    follows : (rest : List Range) → p .rest ≡ rest → Above rest (followingOf a ws s)
-    unfolding followingOf
-    follows [] e = rw (p .next, e) (refl, refl)
-    follows (r ∷ rs) e =
-        let h' : Apart (a .base .0) (a .limit .0) (p .front ++ q ∷ r ∷ rs) = rw e at here in
-        let pr = apart-rest (a .base .0) (a .limit .0) (p .front) q (r ∷ rs) h' in
-        let al : Aligned (a .align .0) (p .front ++ q ∷ r ∷ rs) = rw (p .split, e) at (f .straight) in
-        let al8 : Aligned 8 (p .front ++ q ∷ r ∷ rs) = rw (p .split, e) at (f .aligned) in
-        let st = aligned-rest (a .align .0) (p .front) q (r ∷ rs) al in
-        let a8 = aligned-rest 8 (p .front) q (r ∷ rs) al8 in
-        let d : Laid (a .base .0) (q ∷ r ∷ rs) ws = rw e at laid-here in
-        let t = told-step (a .base .0) (a .limit .0) (a .align .0) ws (q .limit + 1) r (head-of rs) (d .1 .0) (even-head rs (a8 .2 .2)) (omega arith) (pr .3 .1) (pr .3 .2)
-        (st .2 .0) (st .2 .1) (a8 .2 .0) (a8 .2 .1) in
-        let n : s .next ≡ addr (r .base) = p .next ∙ ap (λ (xs : List Range). addr (head-of xs)) e in
-        rw (n, p .here, ne-eqb (r .base) 0 (λ z. omega arith), t) (refl, refl, omega arith)
-
     -- behind a range that it touches
     stand-touching : eqb (q .limit) b ≡ true → Stand a ws c y s
     unfolding placeOf
     stand-touching t =
-        let pr = apart-rest (a .base .0) (a .limit .0) (p .front) q (p .rest) here in
+        let pr = apart-rest (a .base .0) (a .limit .0) (p .front) q (p .rest) (here a ws c f s q p) in
         let e = eqb-true (q .limit) b t in
         let z : eqb (s .here .limit .0) b ≡ true = rw (p .here) t in
         record {
@@ -170,8 +146,8 @@ module _ (a : Arena) (ws : List ℕ) (c : Chain) (f : Fine a ws c) (y : units.Ra
           one-more = omega arith;
           lo = suc (q .limit);
           apart = pr .3;
-          laid = laid-here .1;
-          at-ups = follows (p .rest) refl;
+          laid = laid-here a ws c f s q p .1;
+          at-ups = follows a ws c f s q p (p .rest) refl;
           over = over-of (p .rest) (pr .3) e;
           place = rw z (ap (λ (v : units.Range). joinOf (s .prev) (rangeOf (v .base .0) l) 1 (followingOf a ws s)) (p .here));
         }

@@ -17,6 +17,7 @@ use Rattle.list_words.specs.Words.{soundWalk}
 use Rattle.list_words.specs.Laying.{head-of, lay}
 use Rattle.list_words.specs.Surveys.{Ready, walkOf, kept-of}
 use Rattle.list_edits.specs.declared.Edited.{Edited}
+use Rattle.list_edits.specs.declared.Joined.{Joined}
 
 -- The ranges that the walk from the head meets.
 abbrev pub metOf : Arena → List ℕ → Chain → List Range
@@ -59,10 +60,17 @@ abbrev pub editedWords : Bool → List Range → ℕ → List ℕ → List ℕ
 editedWords bad new base ws = cond bad ws (lay base new ws)
 
 module _ (rs : List Range) (y : units.Range) where
-  -- A range put in: refused if it overlaps one; then the chain of the list with it, and the range that holds it.
+  -- A range put in: the chain of the list with it, and the range that holds it.
   abbrev pub joined : List Range
   joined = insert-in (y .base .0) (y .limit .0) rs
 
+  abbrev pub joinedOf : Joined
+  joinedOf = record { chain = chainOf joined; range = struct (holder (y .base .0) (y .limit .0) joined) }
+
+  abbrev pub joinedWords : ℕ → List ℕ → List ℕ
+  joinedWords base ws = lay base joined ws
+
+  -- Refused if it overlaps one.
   unfoldable pub putOf : Edited
   putOf = edited (overlaps (y .base .0) (y .limit .0) rs) joined (holder (y .base .0) (y .limit .0) joined)
 

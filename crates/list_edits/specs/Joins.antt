@@ -4,8 +4,8 @@ use Rattle.units.specs.Words.{rangeOf}
 use Rattle.units.specs.declared.Range.{Range}
 use Rattle.list_words.specs.declared.Chain.{Chain}
 use Rattle.list_edits.specs.declared.Edit.{Edit}
-use Rattle.list_edits.specs.declared.Edited.{Edited}
 use Rattle.list_edits.specs.declared.Join.{Join}
+use Rattle.list_edits.specs.declared.Joined.{Joined}
 use Rattle.list_edits.specs.Edits.{EditRoom, storeHead}
 
 -- The edit of a place.
@@ -19,10 +19,12 @@ pub record Putting (b m : ℕ) (c : Chain) (y : Range) (j : Join) : Type 0 where
   pub joins : j .joins ≤ c .ranges + 1
   pub bytes : c .bytes .0 + (y .limit .0 - y .base .0) < 18446744073709551616
 
-abbrev pub joinDone : Chain → Range → Join → Edited
-joinDone c y j =
-    Edited.Done (record {
-      head = storeHead (c .head) (joinEdit j);
-      ranges = c .ranges + 1 - j .joins;
-      bytes = record { 0 = c .bytes .0 + (y .limit .0 - y .base .0) };
-    }) (j .fresh)
+abbrev pub joinDone : Chain → Range → Join → Joined
+joinDone c y j = record {
+  chain = record {
+    head = storeHead (c .head) (joinEdit j);
+    ranges = c .ranges + 1 - j .joins;
+    bytes = record { 0 = c .bytes .0 + (y .limit .0 - y .base .0) };
+  };
+  range = j .fresh;
+}

@@ -9,7 +9,7 @@ use list_words::Spot;
 use units::Addr;
 use units::Arena;
 use units::Range;
-ghost use mathlib.Core.Bool.{true};
+ghost use mathlib.Core.Bool.{true, false};
 ghost use mathlib.Core.Path.{_≡_};
 ghost use lib.ListN.{length};
 ghost use Rattle.model.specs.Marks.{rng};
@@ -18,7 +18,7 @@ ghost use Rattle.units.specs.declared.aims.Aim.{Aim};
 ghost use Rattle.list_words.specs.Laying.{describe};
 ghost use Rattle.list_edits.specs.Edits.{Room, PieceRoom, pieceHead, pieceWords, EditRoom, storeHead, storeWords};
 ghost use Rattle.list_edits.specs.Joins.{joinEdit, Putting, joinDone};
-ghost use Rattle.list_edits.specs.Chains.{metOf, Held, mayAsk, Holding, putOf, putWords, cutChain, cutWords, cutOf, cutOutWords};
+ghost use Rattle.list_edits.specs.Chains.{metOf, Held, mayAsk, Holding, joinedOf, joinedWords, putOf, putWords, cutChain, cutWords, cutOf, cutOutWords};
 
 // What is to stand behind a range: low, then high, each if it is not empty, then the range at next.
 pub struct Edit {
@@ -28,18 +28,20 @@ pub struct Edit {
     pub next: Addr,
 }
 
-// A range that is to go in, joined with its neighbours, of which there are `joins`, behind `prev` and before the range at `next`.
+// The place of a range: behind `prev` and before the range at `next` it becomes `fresh`, joined with as many neighbours as
+// `joins` says. Where it overlaps a range of the list it has no place, and `overlaps` says so.
 pub struct Join {
     pub prev: Range,
     pub fresh: Range,
     pub next: Addr,
     pub joins: u64,
+    pub overlaps: bool,
 }
 
-// A range overlaps one of the list, or is free to go in.
-pub enum Place {
-    Overlap,
-    Free(Join),
+// A range put in: the chain afterwards, and the range that holds it.
+pub struct Joined {
+    pub chain: Chain,
+    pub range: Range,
 }
 
 // What a range put in or taken out gives: some byte of it is in the list already, or is not in it; or the chain afterwards,
@@ -95,7 +97,7 @@ fn store(words: &mut [u64], start: Addr, head: Addr, edit: Edit) -> Addr
 }
 
 // Writes the place of a range.
-fn put(words: &mut [u64], start: Addr, chain: Chain, range: Range, place: Join) -> Edited
+fn put(words: &mut [u64], start: Addr, chain: Chain, range: Range, place: Join) -> Joined
     requires { ⌜ Putting (start .0) (length (now words)) chain range place ⌝ }
     ensures { λ r. ⌜ (r ≡ joinDone chain range place) × (now (words .exit) ≡ storeWords (start .0) (now (words .entry)) (joinEdit place)) ⌝ }
 {
@@ -118,20 +120,38 @@ fn put(words: &mut [u64], start: Addr, chain: Chain, range: Range, place: Join) 
         ranges,
         bytes,
     };
-    Edited::Done(after, low)
+    Joined {
+        chain: after,
+        range: low,
+    }
 }
 
-// Puts a range into a sound list, joined with the ranges that it touches, at the first range that reaches its base.
+// Puts a range into a sound list that it does not overlap, joined with the ranges that it touches, at the first range that
+// reaches its base.
+pub fn join_at(arena: Arena, words: &mut [u64], chain: Chain, range: Range, spot: Spot) -> Joined
+    requires { ⌜ Held arena (now words) chain (Aim.Reach (range .base)) spot ⌝ }
+    requires { ⌜ mayAsk arena range ≡ true ⌝ }
+    requires { ⌜ overlaps (range .base .0) (range .limit .0) (metOf arena (now words) chain) ≡ false ⌝ }
+    ensures { λ r. ⌜ (r ≡ joinedOf (metOf arena (now (words .entry)) chain) range) × (now (words .exit) ≡ joinedWords (metOf arena (now (words .entry)) chain) range (arena .base .0) (now (words .entry))) ⌝ }
+{
+    let place = placing::place(arena, words, range, spot);
+    put(words, arena.base, chain, range, place)
+}
+
+// The same for a range that may overlap one of the list: then it is refused.
 pub fn put_at(arena: Arena, words: &mut [u64], chain: Chain, range: Range, spot: Spot) -> Edited
     requires { ⌜ Held arena (now words) chain (Aim.Reach (range .base)) spot ⌝ }
     requires { ⌜ mayAsk arena range ≡ true ⌝ }
     ensures { λ r. ⌜ (r ≡ putOf (metOf arena (now (words .entry)) chain) range) × (now (words .exit) ≡ putWords (metOf arena (now (words .entry)) chain) range (arena .base .0) (now (words .entry))) ⌝ }
 {
-    let Place::Free(p) = placing::place(arena, words, range, spot) else {
+    let place = placing::place(arena, words, range, spot);
+    if place.overlaps {
         return Edited::Refused;
-    };
-    let place = p;
-    put(words, arena.base, chain, range, place)
+    }
+    let done = put(words, arena.base, chain, range, place);
+    let after = done.chain;
+    let fresh = done.range;
+    Edited::Done(after, fresh)
 }
 
 // Whether a range overlaps one of a sound list, by the first range that reaches its base. Where none does, none overlaps.
@@ -143,10 +163,8 @@ pub fn overlaps_at(arena: Arena, words: &[u64], chain: Chain, range: Range, spot
     if spot.here.base.is_zero() {
         return false;
     }
-    match placing::place(arena, words, range, spot) {
-        Place::Overlap => true,
-        Place::Free(_) => false,
-    }
+    let place = placing::place(arena, words, range, spot);
+    place.overlaps
 }
 
 // Takes a part out of the range at a spot of a sound list, and hands back the chain of what is left.

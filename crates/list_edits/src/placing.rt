@@ -1,18 +1,14 @@
 // The place of a range in a sound list, joined with the ranges that it touches.
 use crate::Join;
-use crate::Place;
-use list_words::Met;
 use list_words::Spot;
-use units::Addr;
 use units::Arena;
 use units::Range;
 ghost use mathlib.Core.Path.{_≡_};
 ghost use Prim.Native.Nat.{_≤_};
-ghost use lib.ListN.{length};
 ghost use Rattle.list_edits.specs.Places.{Following, followingOf, joinOf, Placing, placeOf};
 
-// The place of a fresh range before the range above it, which may touch it.
-fn place_before(prev: Range, fresh: Range, joins: u64, above: Spot) -> Place
+// The place of a fresh range before the range above it, which may touch it or overlap it.
+fn place_before(prev: Range, fresh: Range, joins: u64, above: Spot) -> Join
     requires { ⌜ joins ≤ 1 ⌝ }
     ensures { λ r. ⌜ r ≡ joinOf prev fresh joins above ⌝ }
 {
@@ -20,65 +16,55 @@ fn place_before(prev: Range, fresh: Range, joins: u64, above: Spot) -> Place
     let next = above.next;
     let base = up.base;
     if base.is_zero() {
-        return Place::Free(Join {
+        return Join {
             prev,
             fresh,
             next,
             joins,
-        });
-    }
-    if base.lt(fresh.limit) {
-        return Place::Overlap;
+            overlaps: false,
+        };
     }
     if base.same(fresh.limit) {
-        return Place::Free(Join {
+        return Join {
             prev,
             fresh: Range::new(fresh.base, up.limit),
             next,
             joins: joins + 1,
-        });
+            overlaps: false,
+        };
     }
-    Place::Free(Join {
+    Join {
         prev,
         fresh,
         next: base,
         joins,
-    })
+        overlaps: base.lt(fresh.limit),
+    }
 }
 
 // The spot after a spot of a sound list.
 fn following(arena: Arena, words: &[u64], spot: Spot) -> Spot
-    requires { ⌜ Following arena (length (now words)) spot ⌝ }
+    requires { ⌜ Following arena (now words) spot ⌝ }
     ensures { λ r. ⌜ r ≡ followingOf arena (now (words .entry)) spot ⌝ }
 {
     let prev = spot.here;
     let at = spot.next;
-    let none = Range::none();
     if at.is_zero() {
         return Spot {
             prev,
-            here: none,
+            here: Range::none(),
             next: at,
         };
     }
-    let Met::Found(end, next) = list_words::step(arena, words, prev.limit.after(), at) else {
-        let nowhere = Addr::new(0);
-        return Spot {
-            prev,
-            here: none,
-            next: nowhere,
-        };
-    };
-    Spot {
-        prev,
-        here: Range::new(at, end),
-        next,
-    }
+    let above = list_words::descriptor_at(arena, words, at);
+    let here = Range::new(at, above.limit);
+    let next = above.next;
+    Spot { prev, here, next }
 }
 
 // The place of a range at the first range of a sound list that reaches its base.
-pub(crate) fn place(arena: Arena, words: &[u64], range: Range, spot: Spot) -> Place
-    requires { ⌜ Placing arena (length (now words)) range spot ⌝ }
+pub(crate) fn place(arena: Arena, words: &[u64], range: Range, spot: Spot) -> Join
+    requires { ⌜ Placing arena (now words) range spot ⌝ }
     ensures { λ r. ⌜ r ≡ placeOf arena (now (words .entry)) range spot ⌝ }
 {
     let prev = spot.prev;

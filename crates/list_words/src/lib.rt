@@ -19,6 +19,7 @@ ghost use lib.ListN.{length};
 ghost use Rattle.units.specs.Aims.{none-range};
 ghost use Rattle.units.specs.Words.{addr};
 ghost use Rattle.list_words.specs.Words.{stepAt};
+ghost use Rattle.list_words.specs.Descriptors.{Standing, descriptorAt};
 ghost use Rattle.list_words.specs.Surveys.{Ready, spot, at-end, surveyOf};
 
 // What the words say of a range at an address: its limit and the next range's base, or what is at fault.
@@ -26,6 +27,12 @@ pub enum Met {
     Found(Addr, Addr),
     BadBase,
     BadDescriptor,
+}
+
+// What the descriptor of a range says: its limit, and the base of the next range, or 0.
+pub struct Descriptor {
+    pub limit: Addr,
+    pub next: Addr,
 }
 
 // A range of the list, with the range before it and the base of the one after it. Where there is none: (0, 0), and 0.
@@ -103,6 +110,22 @@ pub fn step(arena: Arena, words: &[u64], low: Addr, at: Addr) -> Met
         return Met::BadDescriptor;
     }
     Met::Found(end, units::untagged(w))
+}
+
+// The descriptor at the base of a range of a sound list: nothing is tested.
+pub fn descriptor_at(arena: Arena, words: &[u64], at: Addr) -> Descriptor
+    requires { ⌜ Standing arena (now words) (at .0) ⌝ }
+    ensures { λ r. ⌜ r ≡ descriptorAt arena (now (words .entry)) (at .0) ⌝ }
+{
+    let i = at.word_from(arena.base);
+    let first = words[i];
+    let next = units::untagged(first);
+    if units::is_tagged(first) {
+        let limit = at.plus(Size::new(8));
+        return Descriptor { limit, next };
+    }
+    let limit = Addr::new(words[i + 1]);
+    Descriptor { limit, next }
 }
 
 // The walk of an aim that weighs each range against what it has kept.

@@ -1,5 +1,4 @@
 pub mod Meets
-pub mod Describing
 pub mod Walking
 pub mod Besides
 pub mod Abreast

@@ -18,29 +18,6 @@ ghost use Rattle.block_words.specs.Words.{pairs};
 ghost use Rattle.pair_model.specs.Pairs.{inside};
 ghost use Rattle.pair_words.specs.Shares.{share, Listed, Tabled};
 ghost use Rattle.pair_words.specs.Lefts.{Left};
-ghost use Rattle.pair_words.specs.Descriptors.{Standing, descriptorAt};
-
-// What the descriptor of a range says: its limit, and the base of the next range, or 0.
-pub struct Descriptor {
-    pub limit: Addr,
-    pub next: Addr,
-}
-
-// The descriptor at an address of a sound list.
-fn descriptor_at(arena: Arena, words: &[u64], at: Addr) -> Descriptor
-    requires { ⌜ Standing arena (now words) (at .0) ⌝ }
-    ensures { λ r. ⌜ r ≡ descriptorAt arena (now (words .entry)) (at .0) ⌝ }
-{
-    let i = at.word_from(arena.base);
-    let w = words[i];
-    let next = units::untagged(w);
-    if units::is_tagged(w) {
-        let limit = at.plus(Size::new(8));
-        return Descriptor { limit, next };
-    }
-    let limit = Addr::new(words[i + 1]);
-    Descriptor { limit, next }
-}
 
 // The higher and the lower of two addresses.
 fn higher(x: Addr, y: Addr) -> Addr
@@ -81,7 +58,7 @@ pub fn list_share(arena: Arena, words: &[u64], head: Addr, range: Range) -> Size
     let mut at = head;
     let mut sum = Size::new(0);
     while !at.is_zero() {
-        let here = descriptor_at(arena, words, at);
+        let here = list_words::descriptor_at(arena, words, at);
         sum = sum.plus(common(range, Range::new(at, here.limit)));
         at = here.next;
     }
@@ -117,7 +94,7 @@ pub fn spot_left(arena: Arena, words: &[u64], head: Addr, base: Addr, spot: Spot
             next: head,
         };
     }
-    let first = descriptor_at(arena, words, head);
+    let first = list_words::descriptor_at(arena, words, head);
     if base.le(first.limit) {
         let here = Range::new(head, first.limit);
         let next = first.next;

@@ -1,5 +1,5 @@
 -- `overlaps_at` meets its contract: none that reaches the base, or the place of the range. Assumes nothing.
-use Rattle.list_edits.proofs.EditWays.{put-placing, at-none, at-overlap, at-free}
+use Rattle.list_edits.proofs.EditWays.{put-placing, at-none, at-place}
 use borrow.Author.Needs.{needs}
 use Rattle.list_edits.proofs.overlaps_at.Statement.{statement}
 use Rattle.list_edits.proofs.overlaps_at.Tie as tie
@@ -13,17 +13,8 @@ returns c = search at-none
 place-requires : tie.Need-place-requires
 place-requires c κs = search put-placing
 
-enum-told : tie.Need-enum-told
-enum-told c = search needs
-
-enum-told-2 : tie.Need-enum-told-2
-enum-told-2 c = search needs
-
 returns-2 : tie.Need-returns-2
-returns-2 c = search (at-overlap, at-free)
-
-returns-3 : tie.Need-returns-3
-returns-3 c = search (at-overlap, at-free)
+returns-2 c = search at-place
 
 pub overlaps-at-spec : {M : Type 1} → statement M
-overlaps-at-spec = tie.close (tie.spec is-zero-requires returns place-requires enum-told enum-told-2 returns-2 returns-3)
+overlaps-at-spec = tie.close (tie.spec is-zero-requires returns place-requires returns-2)

@@ -7,46 +7,31 @@ use Rattle.list_edits.proofs.put_at.Tie as tie
 place-requires : tie.Need-place-requires
 place-requires c κs = let entry = c .before .before in put-placing _ _ _ (entry .args .range) _ (entry .pre .0) (entry .pre .1)
 
-enum-known-p : tie.Need-enum-known-p
-enum-known-p c = search needs
-
-enum-told : tie.Need-enum-told
-enum-told c = search needs
-
 same-length : tie.Need-same-length
 same-length c = search needs
 
 returns : tie.Need-returns
 returns c =
-    let place = c .before .before in
+    let place = c .before in
     let entry = place .before .before .before in
-    put-refused _ _ _ (entry .args .range) _ (entry .pre .0) (entry .pre .1) _ (place .place .ensures) (c .enum-told .given .1)
+    put-refused _ _ _ (entry .args .range) _ (entry .pre .0) (entry .pre .1) _ (place .place .ensures) (c .if1 .taken)
 
 put-requires : tie.Need-put-requires
 put-requires c κs =
-    let place = c .before .before .before .before in
+    let place = c .before .before in
     let entry = place .before .before .before in
-    put-putting _ _ _ (entry .args .range) _ (entry .pre .0) (entry .pre .1) _ (place .place .ensures) _ (c .before .before .p .given .1)
+    put-putting _ _ _ (entry .args .range) _ (entry .pre .0) (entry .pre .1) _ (place .place .ensures) (c .before .if1 .left)
 
 same-length-2 : tie.Need-same-length-2
 same-length-2 c = search needs
 
 returns-2 : tie.Need-returns-2
 returns-2 c =
-    let free = c .before .before .before .before .before in
-    let place = free .before .before in
+    let put = c .before .before .before .before in
+    let place = put .before .before .before in
     let entry = place .before .before .before in
-    put-done _ _ _ (entry .args .range) _ (entry .pre .0) (entry .pre .1) _ (place .place .ensures) _ (free .p .given .1) _ _ (c .before .before .put .ensures)
+    put-done _ _ _ (entry .args .range) _ (entry .pre .0) (entry .pre .1) _ (place .place .ensures) (put .before .before .if1 .left) _ _ (put .put .ensures)
 
 pub put-at-spec : {M : Type 1} → statement M
 put-at-spec =
-    tie.close
-    (tie.spec
-    place-requires
-    enum-known-p
-    enum-told
-    same-length
-    returns
-    put-requires
-    same-length-2
-    returns-2)
+    tie.close (tie.spec place-requires same-length returns put-requires same-length-2 returns-2)

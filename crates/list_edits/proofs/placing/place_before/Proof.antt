@@ -10,26 +10,23 @@ is-zero-requires c κs = search needs
 returns : tie.Need-returns
 returns c = search before-ways
 
-lt-requires : tie.Need-lt-requires
-lt-requires c κs = search needs
-
-returns-2 : tie.Need-returns-2
-returns-2 c = search before-ways
-
 same-requires : tie.Need-same-requires
 same-requires c κs = search needs
 
 new-requires : tie.Need-new-requires
 new-requires c κs = search needs
 
-add-t13 : tie.Need-add-t13
-add-t13 c = search needs
+add-t11 : tie.Need-add-t11
+add-t11 c = search needs
+
+returns-2 : tie.Need-returns-2
+returns-2 c = search before-ways
+
+lt-requires : tie.Need-lt-requires
+lt-requires c κs = search needs
 
 returns-3 : tie.Need-returns-3
 returns-3 c = search before-ways
-
-returns-4 : tie.Need-returns-4
-returns-4 c = search before-ways
 
 pub place-before-spec : {M : Type 1} → statement M
 place-before-spec =
@@ -37,10 +34,9 @@ place-before-spec =
     (tie.spec
     is-zero-requires
     returns
-    lt-requires
-    returns-2
     same-requires
     new-requires
-    add-t13
-    returns-3
-    returns-4)
+    add-t11
+    returns-2
+    lt-requires
+    returns-3)
