@@ -1,9 +1,9 @@
--- The edits of one land of a pair: the ways out of `give`, `take` and `lower`. Assumes nothing.
+-- The edits of one land of a pair: the ways out of `put`, `give`, `take` and `lower`. Assumes nothing.
 use Prim.Native.Nat.{ℕ, _+_, _-_, _≤_}
 use mathlib.Core.Bool.{Bool, true}
 use mathlib.Core.List.{List, [], _∷_}
 use mathlib.Core.Logic.{⊎-elim}
-use mathlib.Core.Path.{_≡_, sym, _∙_}
+use mathlib.Core.Path.{_≡_, sym, ap, subst, _∙_}
 use native.Mathlib.Omega.{arith}
 use types.Run.{OneOf}
 use denote.Enum.Declared.{tagOf}
@@ -35,7 +35,8 @@ use Rattle.block_land.specs.Layout as block
 use Rattle.block_land.specs.Parts as block-parts
 use Rattle.block_land.specs.declared.BlockLand.{BlockLand}
 use Rattle.block_land.proofs.EditAnswers.{closes, whole}
-use Rattle.pair.specs.Editing.{listLess, listMore, tableLess, given, Giving, Taking, Lowering}
+use Rattle.pair.specs.Editing.{listLess, listMore, tableLess, chained, joined, given, Giving, Taking, Lowering}
+use Rattle.pair.specs.declared.edits.Joined.{Joined}
 
 module _ (h : ListLand) (ws : List ℕ) (y : units.Range) (s : Spot) where
   abbrev met : List Range
@@ -43,8 +44,8 @@ module _ (h : ListLand) (ws : List ℕ) (y : units.Range) (s : Spot) where
 
   -- A RANGE PUT INTO THE LIST
   module _ (k : Giving h ws y s) (a : Arena) (ea : a ≡ arenaIn h) (c : Chain) (ec : c ≡ chainIn h) where
-    pub give-asks : Held a ws c (reachBase y) s × (mayAsk a y ≡ true)
-    give-asks = (list-requests.sought-held h ws (reachBase y) s (k .sought) a ea c ec, rw ea (k .good))
+    pub put-asks : Held a ws c (reachBase y) s × (mayAsk a y ≡ true)
+    put-asks = (list-requests.sought-held h ws (reachBase y) s (k .sought) a ea c ec, rw ea (k .good))
 
     module _ (v : list-edited.Edited) (ws' : List ℕ) (e : (v ≡ putOf (metOf a ws c) y) × (ws' ≡ putWords (metOf a ws c) y (a .base .0) ws)) where
       abbrev bad : Bool
@@ -57,16 +58,35 @@ module _ (h : ListLand) (ws : List ℕ) (y : units.Range) (s : Spot) where
       unfolding putOf putWords
       said = rw (ea, ec) at e
 
-      pub give-never : {P : Type 0} → v ≡ list-edited.Edited.Refused → P
-      give-never f = clash (edited-refused (listMore h ws y) held bad (sym (said .0) ∙ f)) (k .apart)
+      pub put-never : {P : Type 0} → v ≡ list-edited.Edited.Refused → P
+      put-never f = clash (edited-refused (listMore h ws y) held bad (sym (said .0) ∙ f)) (k .apart)
 
-      pub give-done : (n : Chain) (x : units.Range) → v ≡ list-edited.Edited.Done n x → (z : ListLand) → z ≡ closedWith h (n .head) (n .ranges) (n .bytes) →
-          (record { list = z; range = x } ≡ given h ws y) × (ws' ≡ lay (list.base h) (listMore h ws y) ws)
-      give-done n x f z ez =
+      pub put-done : (n : Chain) (x : units.Range) → v ≡ list-edited.Edited.Done n x →
+          (record { chain = n; range = x } ≡ joined h ws y) × (ws' ≡ lay (list.base h) (listMore h ws y) ws)
+      put-done n x f =
           let d = edited-done (listMore h ws y) held bad n x (sym (said .0) ∙ f) in
-          let u = list-requests.closes h (listMore h ws y) n (d .chain) z ez in
+          let u = d .chain in
           let r = d .range in
-          ((λ i. record { list = u i; range = r i }), said .1 ∙ rw (k .apart))
+          ((λ i. record { chain = u i; range = r i }), said .1 ∙ rw (k .apart))
+
+  -- AND THE LIST CLOSED
+  module _ (c : Chain) (ec : c ≡ chainIn h) where
+    same : chained h c ≡ h
+    same = ap (chained h) ec
+
+    pub give-asked : Giving h ws y s → Giving (chained h c) ws y s
+    give-asked k = subst (λ (x : ListLand). Giving x ws y s) (sym same) k
+
+    pub give-done : (r : Joined) (ws' : List ℕ) →
+        (r ≡ joined (chained h c) ws y) × (ws' ≡ lay (list.base h) (listMore (chained h c) ws y) ws) →
+        (z : ListLand) → z ≡ chained h (r .chain) →
+        (record { list = z; range = r .range } ≡ given h ws y) × (ws' ≡ lay (list.base h) (listMore h ws y) ws)
+    give-done r ws' e z ez =
+        let f : r ≡ joined h ws y = e .0 ∙ ap (λ (x : ListLand). joined x ws y) same in (
+          ap (λ (x : ListLand). record { list = x; range = r .range }) ez
+              ∙ ap (λ (x : Joined). record { list = chained h (x .chain); range = x .range }) f,
+          e .1 ∙ ap (λ (x : ListLand). lay (list.base h) (listMore x ws y) ws) same,
+        )
 
   -- A PART TAKEN OUT OF IT
   module _ (k : Taking h ws y s) (a : Arena) (ea : a ≡ arenaIn h) (c : Chain) (ec : c ≡ chainIn h) where

@@ -8,26 +8,24 @@ use lib.Dec.{eqb}
 use lib.ListN.{length}
 use borrow.Author.Tests.{eqb-true}
 use Rattle.units.specs.declared.Range as units
-use Rattle.model.specs.Calls.{Arena}
 use Rattle.model.specs.Marks.{Range}
 use Rattle.model.specs.Lists.{Apart}
-use Rattle.model.specs.Flushing.{Flushes, flush}
+use Rattle.model.specs.Flushing.{Flush}
 use Rattle.model.proofs.Flushing.{flush-still}
 use Rattle.model.proofs.Places.{apart-rest}
 use Rattle.list_words.specs.Laying.{head-of}
 use Rattle.list_land.specs.Layout as list
-use Rattle.list_land.proofs.Sound as list-sound
 use Rattle.block_words.specs.Surveys.{Ordered, Spot}
 use Rattle.block_words.specs.Words.{fill}
 use Rattle.block_words.specs.declared.Entry.{Entry}
 use Rattle.block_land.specs.Layout as block
-use Rattle.block_land.specs.Parts as block-parts
+use Rattle.block_land.specs.declared.BlockLand.{BlockLand}
 use Rattle.block_land.proofs.EditAnswers.{sorted}
-use Rattle.block_land.proofs.LayoutLaws as block-laws
-use Rattle.flush.specs.Flush.{Done, flushed}
-use Rattle.flush.proofs.FlushKeeps as keeps
-use Rattle.pair.specs.Inserts.{flushedPair, Placed}
+use Rattle.block_land.proofs.LayoutLaws.{words-back, handle-back}
+use Rattle.pair.specs.Inserts.{flushOf, flushedCounts, flushedNodes, Placed}
 use Rattle.pair.specs.declared.Pair.{Pair}
+use Rattle.pair.specs.declared.insert.Counts.{Counts}
+use Rattle.pair.proofs.AfterFlush.{flushedPair, After, after}
 
 -- where the head of a sorted list is that of its rest, nothing is before it
 none-gone : (lo hi : ℕ) (gone left : List Range) → 0 < lo → Apart lo hi (gone ++ left) → head-of left ≡ head-of (gone ++ left) → gone ≡ []
@@ -36,65 +34,35 @@ none-gone lo hi (g ∷ gone) [] z a e = absurd (omega (arith, a .0))
 none-gone lo hi (g ∷ gone) (r ∷ rs) z a e = let b = apart-rest (suc (g .limit)) hi gone r rs (a .3) in absurd (omega (arith, a .1, b .0))
 
 module _ (p : Pair) (ws vs : List ℕ) (y : units.Range) (e : Entry) (k : Placed p ws vs y e)
-    (q : Pair) (vs' : List ℕ) (f : (q ≡ flushedPair p ws vs) × (vs' ≡ flushed (p .list) ws (p .block) vs .nodes)) where
-  abbrev rs : List Range
-  rs = list.walkOf (p .list) ws .met
+    (c : Counts) (vs' : List ℕ) (f : (c ≡ flushedCounts p ws vs) × (vs' ≡ flushedNodes p ws vs)) where
+  abbrev fl : Flush
+  fl = flushOf p ws vs
 
-  abbrev qs : List Range
-  qs = block.tableOf (p .block) vs
+  known : After p ws vs
+  known = after p ws vs (k .good)
 
-  abbrev a : Arena
-  a = block.arenaOf (p .block) vs
+  count : c .ranges ≡ length (fl .into)
+  count = ap (λ (x : Counts). x .ranges) (f .0)
 
-  abbrev left : List Range
-  left = flush a rs qs .left
-
-  abbrev into : List Range
-  into = flush a rs qs .into
-
-  checked : keeps.Checked (p .list) ws (p .block) vs
-  checked = keeps.checked (p .list) ws (p .block) vs (k .good)
-
-  moved : Flushes a rs qs (flush a rs qs)
-  moved = keeps.keeps (p .list) ws (p .block) vs checked
-
-  pair-is : q ≡ record { list = list.closed (p .list) left; block = block.closed (p .block) into }
-  pair-is = f .0 ∙ ap (λ (d : Done). record { list = d .result .list; block = d .result .block }) (keeps.is-accepted (p .list) ws (p .block) vs checked)
-
-  nodes-are : vs' ≡ fill into vs
-  nodes-are = f .1 ∙ ap (λ (d : Done). d .nodes) (keeps.is-accepted (p .list) ws (p .block) vs checked)
-
-  read : block-parts.Readable (block.closed (p .block) into) (fill into vs)
-  read =
-      let r = block-laws.reads (block.closed (p .block) into) (fill into vs) into (keeps.block-read (p .list) ws (p .block) vs checked) in
-      record { good = r .good; whole = r .whole }
-
-  pub prepare-ordered : Ordered vs' (q .block .ranges)
+  pub prepare-ordered : Ordered vs' (c .ranges)
   prepare-ordered =
-      let t = sorted (block.closed (p .block) into) (fill into vs) read in
-      let n : q .block .ranges ≡ length into = ap (λ (x : Pair). x .block .ranges) pair-is in
-      rw (n, nodes-are) (record { low = t .low; high = t .high; fits = t .fits; apart = t .apart })
+      let t = sorted (flushedPair p ws vs .block) (flushedNodes p ws vs) (record { good = known .in-block .good; whole = known .in-block .whole }) in
+      rw (count, f .1) (record { low = t .low; high = t .high; fits = t .fits; apart = t .apart })
 
-  module _ (t : Bool) (et : t ≡ eqb (q .list .head .0) (p .list .head .0)) (g : t ≡ true) where
-    fit : list-sound.Fine (p .list) ws
-    fit = keeps.list-fine (p .list) ws (p .block) vs checked
-
-    same-head : head-of left ≡ head-of (moved .gone ++ left)
+  module _ (t : Bool) (et : t ≡ eqb (c .chain .head .0) (p .list .head .0)) (g : t ≡ true) where
+    same-head : head-of (fl .left) ≡ head-of (known .moved .gone ++ fl .left)
     same-head =
-        sym (ap (λ (x : Pair). x .list .head .0) pair-is) ∙ eqb-true (q .list .head .0) (p .list .head .0) (sym et ∙ g)
-        ∙ sym (fit .head) ∙ ap head-of (moved .split)
+        sym (ap (λ (x : Counts). x .chain .head .0) (f .0)) ∙ eqb-true (c .chain .head .0) (p .list .head .0) (sym et ∙ g)
+        ∙ sym (known .list-fine .head) ∙ ap head-of (known .moved .split)
 
-    nothing : (left ≡ rs) × (into ≡ qs)
+    nothing : (fl .left ≡ list.walkOf (p .list) ws .met) × (fl .into ≡ block.tableOf (p .block) vs)
     nothing =
-        let n = none-gone (list.base (p .list)) (list.limit (p .list)) (moved .gone) left (fit .place .arena .above)
-        (subst (Apart (list.base (p .list)) (list.limit (p .list))) (moved .split) (fit .apart)) same-head in
-        flush-still a rs qs (moved .moved ∙ ap length n)
+        let n = none-gone (list.base (p .list)) (list.limit (p .list)) (known .moved .gone) (fl .left) (known .list-fine .place .arena .above)
+        (subst (Apart (list.base (p .list)) (list.limit (p .list))) (known .moved .split) (known .list-fine .apart)) same-head in
+        flush-still (block.arenaOf (p .block) vs) (list.walkOf (p .list) ws .met) (block.tableOf (p .block) vs) (known .moved .moved ∙ ap length n)
 
-    pub prepare-same : Spot vs' (q .block .ranges) (y .base .0) (e .number)
+    pub prepare-same : Spot vs' (c .ranges) (y .base .0) (e .number)
     prepare-same =
-        let b = keeps.block-fine (p .list) ws (p .block) vs checked in
-        let v : vs' ≡ vs = nodes-are ∙ ap (λ (x : List Range). fill x vs) (nothing .1) ∙ block-laws.words-back (p .block) vs b in
-        let h : q .block ≡ p .block = ap (λ (x : Pair). x .block) pair-is ∙ ap (block.closed (p .block)) (nothing .1) ∙ block-laws.handle-back (p .block) vs b in
-        rw (v, h) (k .place)
-
-pub ruleset prepares = (prepare-ordered, prepare-same)
+        let v : vs' ≡ vs = f .1 ∙ ap (λ (x : List Range). fill x vs) (nothing .1) ∙ words-back (p .block) vs (known .block-fine) in
+        let n : c .ranges ≡ p .block .ranges = count ∙ ap length (nothing .1) ∙ ap (λ (x : BlockLand). x .ranges) (handle-back (p .block) vs (known .block-fine)) in
+        rw (v, n) (k .place)

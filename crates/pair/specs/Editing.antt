@@ -7,10 +7,11 @@ use Rattle.units.specs.declared.Range as units
 use Rattle.model.specs.Marks.{Range, struct}
 use Rattle.model.specs.Lists.{overlaps, holder, insert-in, delete-from}
 use Rattle.model.specs.Calls.{good-range}
+use Rattle.list_words.specs.declared.Chain.{Chain}
 use Rattle.list_words.specs.declared.Spot.{Spot}
 use Rattle.list_edits.specs.Chains as chains
 use Rattle.list_land.specs.Layout as list
-use Rattle.list_land.specs.Parts.{arenaIn, chainIn, Sought, reachBase}
+use Rattle.list_land.specs.Parts.{arenaIn, chainIn, closedWith, Sought, reachBase}
 use Rattle.list_land.specs.declared.ListLand.{ListLand}
 use Rattle.block_edits.specs.Edits.{cutOf}
 use Rattle.block_edits.specs.Places.{Holding}
@@ -19,6 +20,7 @@ use Rattle.block_land.specs.Layout as block
 use Rattle.block_land.specs.Parts.{Readable}
 use Rattle.block_land.specs.declared.BlockLand.{BlockLand}
 use Rattle.pair.specs.declared.edits.Given.{Given}
+use Rattle.pair.specs.declared.edits.Joined.{Joined}
 
 -- The list's ranges without a range and with it, and the table's without it.
 abbrev pub listLess : ListLand → List ℕ → units.Range → List Range
@@ -30,9 +32,16 @@ listMore h ws y = insert-in (y .base .0) (y .limit .0) (list.walkOf h ws .met)
 abbrev pub tableLess : BlockLand → List ℕ → units.Range → List Range
 tableLess k vs y = delete-from (y .base .0) (y .limit .0) (block.tableOf k vs)
 
--- The list with a range put in, and the range that then holds it.
+-- The list with a chain.
+abbrev pub chained : ListLand → Chain → ListLand
+chained h c = closedWith h (c .head) (c .ranges) (c .bytes)
+
+-- The chain with a range put in, and the range that then holds it; the list with that chain.
+abbrev pub joined : ListLand → List ℕ → units.Range → Joined
+joined h ws y = record { chain = chains.chainOf (listMore h ws y); range = struct (holder (y .base .0) (y .limit .0) (listMore h ws y)) }
+
 abbrev pub given : ListLand → List ℕ → units.Range → Given
-given h ws y = record { list = list.closed h (listMore h ws y); range = struct (holder (y .base .0) (y .limit .0) (listMore h ws y)) }
+given h ws y = record { list = list.closed h (listMore h ws y); range = joined h ws y .range }
 
 -- A good range that a sound list has no byte of, and the spot of its base.
 pub record Giving (h : ListLand) (ws : List ℕ) (y : units.Range) (s : Spot) : Type 0 where

@@ -8,9 +8,11 @@ use lib.ListN.{length}
 use Rattle.units.specs.declared.Range as units
 use Rattle.model.specs.Marks.{Range, struct}
 use Rattle.model.specs.Calls.{good-range}
-use Rattle.model.specs.Lists.{overlaps, holder, insert-in}
+use Rattle.model.specs.Flushing.{Flush}
+use Rattle.model.specs.Lists.{total, overlaps, holder, insert-in}
 use Rattle.list_words.specs.Laying.{lay}
 use Rattle.list_words.specs.declared.Spot.{Spot}
+use Rattle.list_edits.specs.Chains.{chainOf}
 use Rattle.list_land.specs.Layout as list
 use Rattle.list_land.specs.Parts as list-parts
 use Rattle.list_land.specs.Parts.{reachBase}
@@ -18,26 +20,41 @@ use Rattle.block_words.specs.Surveys as places
 use Rattle.block_words.specs.Words.{capacity, fill}
 use Rattle.block_words.specs.declared.Entry.{Entry}
 use Rattle.block_land.specs.Layout as block
-use Rattle.flush.specs.Flush.{checkOf, flushed}
+use Rattle.block_land.specs.Parts as block-parts
+use Rattle.flush.specs.Flush.{checkOf, moves}
 use Rattle.flush.specs.declared.FlushCheck.{FlushCheck}
 use Rattle.pair_model.specs.Pairs.{both, any-free}
 use Rattle.pair_words.specs.Lefts.{Left}
-use Rattle.pair.specs.Editing.{listMore, given}
+use Rattle.pair.specs.Editing.{listMore, chained, joined}
 use Rattle.pair.specs.Parts.{Ranged}
-use Rattle.pair.specs.declared.Changed.{Changed}
 use Rattle.pair.specs.declared.Pair.{Pair}
+use Rattle.pair.specs.declared.insert.Counts.{Counts}
+use Rattle.pair.specs.declared.insert.Entered.{Entered}
 
--- The handles after a flush.
-abbrev pub flushedPair : Pair → List ℕ → List ℕ → Pair
-flushedPair p ws vs = record { list = flushed (p .list) ws (p .block) vs .result .list; block = flushed (p .list) ws (p .block) vs .result .block }
+-- The counts of the ranges of a list and of a table, and the handles of a pair closed by counts.
+abbrev pub countsOf : List Range → List Range → Counts
+countsOf rs qs = record { chain = chainOf rs; ranges = length qs; bytes = record { 0 = total qs } }
+
+abbrev pub closedBy : Pair → Counts → Pair
+closedBy p c = record { list = chained (p .list) (c .chain); block = block-parts.closedWith (p .block) (c .ranges) (c .bytes) }
+
+module _ (p : Pair) (ws vs : List ℕ) where
+  -- The flush of the list's ranges into the table; the counts and the node words after it.
+  abbrev pub flushOf : Flush
+  flushOf = moves (p .list) ws (p .block) vs
+
+  abbrev pub flushedCounts : Counts
+  flushedCounts = countsOf (flushOf .left) (flushOf .into)
+
+  abbrev pub flushedNodes : List ℕ
+  flushedNodes = fill (flushOf .into) vs
 
 module _ (p : Pair) (ws : List ℕ) (y : units.Range) where
   -- The list with the range in it, and its words.
-  abbrev pub enterList : Changed
+  abbrev pub enterList : Entered
   enterList = record {
-    pair = record { list = given (p .list) ws y .list; block = p .block };
-    answer = 0;
-    range = given (p .list) ws y .range;
+    counts = record { chain = joined (p .list) ws y .chain; ranges = p .block .ranges; bytes = p .block .bytes };
+    range = joined (p .list) ws y .range;
   }
 
   abbrev pub enterWords : List ℕ
@@ -59,10 +76,9 @@ module _ (p : Pair) (vs : List ℕ) (y : units.Range) where
   abbrev pub roomy : Bool
   roomy = leb (length blocked) (capacity vs)
 
-  abbrev pub enterBlock : Changed
+  abbrev pub enterBlock : Entered
   enterBlock = record {
-    pair = record { list = p .list; block = block.closed (p .block) blocked };
-    answer = 0;
+    counts = record { chain = list-parts.chainIn (p .list); ranges = length blocked; bytes = record { 0 = total blocked } };
     range = struct (holder (y .base .0) (y .limit .0) blocked);
   }
 
@@ -71,7 +87,7 @@ module _ (p : Pair) (vs : List ℕ) (y : units.Range) where
 
 module _ (p : Pair) (ws vs : List ℕ) (y : units.Range) where
   -- Into the block land where it has room, else into the list.
-  abbrev pub entered : Changed
+  abbrev pub entered : Entered
   entered = cond (roomy p vs y) (enterBlock p vs y) (enterList p ws y)
 
   abbrev pub enteredWords : List ℕ

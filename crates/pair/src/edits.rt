@@ -2,6 +2,7 @@
 use block_edits::Edited;
 use block_land::BlockLand;
 use list_land::ListLand;
+use list_words::Chain;
 use list_words::Spot;
 use units::Range;
 ghost use mathlib.Core.Path.{_≡_};
@@ -9,7 +10,13 @@ ghost use Rattle.list_words.specs.Laying.{lay};
 ghost use Rattle.list_land.specs.Layout as list-layout;
 ghost use Rattle.block_words.specs.Words.{fill};
 ghost use Rattle.block_land.specs.Layout as block-layout;
-ghost use Rattle.pair.specs.Editing.{listLess, listMore, tableLess, given, Giving, Taking, Lowering};
+ghost use Rattle.pair.specs.Editing.{listLess, listMore, tableLess, chained, joined, given, Giving, Taking, Lowering};
+
+// The chain of a list with a range put in, and the isolated range that then contains it.
+pub struct Joined {
+    pub chain: Chain,
+    pub range: Range,
+}
 
 // A list with a range put in, and the isolated range that then contains it.
 pub struct Given {
@@ -17,24 +24,44 @@ pub struct Given {
     pub range: Range,
 }
 
-// Puts a range into a sound list that has no byte of it.
-pub(crate) fn give(list: ListLand, words: &mut [u64], range: Range, spot: Spot) -> Given
-    requires { ⌜ Giving list (now words) range spot ⌝ }
-    ensures { λ r. ⌜ (r ≡ given list (now (words .entry)) range) × (now (words .exit) ≡ lay (list-layout.base list) (listMore list (now (words .entry)) range) (now (words .entry))) ⌝ }
+// Puts a range into a sound list of this chain that has no byte of it. The handle is not closed.
+pub(crate) fn put(
+    list: ListLand,
+    chain: Chain,
+    words: &mut [u64],
+    range: Range,
+    spot: Spot,
+) -> Joined
+    requires { ⌜ Giving (chained list chain) (now words) range spot ⌝ }
+    ensures { λ r. ⌜ (r ≡ joined (chained list chain) (now (words .entry)) range) × (now (words .exit) ≡ lay (list-layout.base list) (listMore (chained list chain) (now (words .entry)) range) (now (words .entry))) ⌝ }
 {
     let list_edits::Edited::Done(c, fresh) = list_edits::put_at(
         list.arena(),
         words,
-        list.chain(),
+        chain,
         range,
         spot,
     ) else {
-        return Given { list, range };
+        return Joined { chain, range };
     };
     let next = c;
+    Joined {
+        chain: next,
+        range: fresh,
+    }
+}
+
+// Puts a range into a sound list that has no byte of it, and closes the list.
+pub(crate) fn give(list: ListLand, words: &mut [u64], range: Range, spot: Spot) -> Given
+    requires { ⌜ Giving list (now words) range spot ⌝ }
+    ensures { λ r. ⌜ (r ≡ given list (now (words .entry)) range) × (now (words .exit) ≡ lay (list-layout.base list) (listMore list (now (words .entry)) range) (now (words .entry))) ⌝ }
+{
+    let done = put(list, list.chain(), words, range, spot);
+    let next = done.chain;
+    let range = done.range;
     Given {
         list: list.close(next.head, next.ranges, next.bytes),
-        range: fresh,
+        range,
     }
 }
 

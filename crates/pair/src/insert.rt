@@ -2,61 +2,92 @@
 use crate::Changed;
 use crate::Pair;
 use crate::PairCheck;
-use crate::edits::give;
+use crate::edits::put;
 use crate::refused;
 use block_words::Entry;
 use block_words::seeks;
+use list_words::Chain;
 use list_words::Spot;
 use units::Aim;
 use units::Range;
 use units::RangeCheck;
+use units::Size;
 ghost use mathlib.Core.Path.{_≡_};
 ghost use Rattle.list_land.specs.Parts.{reachBase};
 ghost use Rattle.block_words.specs.Surveys as places;
-ghost use Rattle.flush.specs.Flush.{checkOf, flushed};
+ghost use Rattle.flush.specs.Flush.{checkOf};
 ghost use Rattle.flush.specs.declared.FlushCheck.the-variants.{Good};
 ghost use Rattle.pair.specs.Calls.{changed, inserted};
 ghost use Rattle.pair.specs.Parts.{Checked};
-ghost use Rattle.pair.specs.Inserts.{flushedPair, Roomless, Open, enterList, enterWords, entered, enteredWords, enteredNodes, takenIn, Wanted, Bare, Placed};
+ghost use Rattle.pair.specs.Inserts.{flushedCounts, flushedNodes, closedBy, Roomless, Open, enterList, enterWords, entered, enteredWords, enteredNodes, takenIn, Wanted, Bare, Placed};
 
-// A flushed pair, and the place of a range in its table.
+// What an insert works on until it closes both handles: the chain of the list, the ranges and the bytes of the table.
+pub struct Counts {
+    pub chain: Chain,
+    pub ranges: u64,
+    pub bytes: Size,
+}
+
+// The counts after a flush, and the place of a range in the table.
 pub struct Prepared {
-    pub pair: Pair,
+    pub counts: Counts,
     pub place: usize,
+}
+
+// The counts with a range put in, and the isolated range that then contains it.
+pub struct Entered {
+    pub counts: Counts,
+    pub range: Range,
 }
 
 impl Pair {
     // The list's ranges moved into the block land, until none is left or one has no room. No arena word changes.
-    fn flushed(self, words: &[u64], nodes: &mut [u64]) -> Pair
+    fn flushed(self, words: &[u64], nodes: &mut [u64]) -> Counts
         requires { ⌜ checkOf (self .list) (now words) (self .block) (now nodes) ≡ Good ⌝ }
-        ensures { λ r. ⌜ (r ≡ flushedPair self (now (words .entry)) (now (nodes .entry))) × (now (nodes .exit) ≡ flushed (self .list) (now (words .entry)) (self .block) (now (nodes .entry)) .nodes) ⌝ }
+        ensures { λ r. ⌜ (r ≡ flushedCounts self (now (words .entry)) (now (nodes .entry))) × (now (nodes .exit) ≡ flushedNodes self (now (words .entry)) (now (nodes .entry))) ⌝ }
     {
         let list = self.list;
         let block = self.block;
         let head = list.head;
         let done = transfers::transfer(list.arena().divided(), words, head, nodes, block.ranges);
         let at = done.at;
-        let bytes = done.bytes;
-        Pair {
-            list: list.close(at, list.ranges - done.moved, list.bytes.minus(bytes)),
-            block: block.close(done.count, block.bytes.plus(bytes)),
+        let ranges = list.ranges - done.moved;
+        let moved = done.bytes;
+        let held = list.bytes;
+        let left = held.minus(moved);
+        let bytes = block.bytes.plus(moved);
+        let chain = Chain {
+            head: at,
+            ranges,
+            bytes: left,
+        };
+        Counts {
+            chain,
+            ranges: done.count,
+            bytes,
         }
     }
 
     // Into the list, where `spot` is that of the list before it was flushed.
-    fn enter_list(self, words: &mut [u64], range: Range, spot: Spot) -> Changed
-        requires { ⌜ Roomless self (now words) range spot ⌝ }
-        ensures { λ r. ⌜ (r ≡ enterList self (now (words .entry)) range) × (now (words .exit) ≡ enterWords self (now (words .entry)) range) ⌝ }
+    fn enter_list(self, rest: Counts, words: &mut [u64], range: Range, spot: Spot) -> Entered
+        requires { ⌜ Roomless (closedBy self rest) (now words) range spot ⌝ }
+        ensures { λ r. ⌜ (r ≡ enterList (closedBy self rest) (now (words .entry)) range) × (now (words .exit) ≡ enterWords (closedBy self rest) (now (words .entry)) range) ⌝ }
     {
         let list = self.list;
-        let block = self.block;
-        let place = pair_words::spot_left(list.arena(), words, list.head, range.base, spot);
-        let given = give(list, words, range, place);
-        let list = given.list;
-        let fresh = given.range;
-        Changed {
-            pair: Pair { list, block },
-            answer: 0,
+        let chain = rest.chain;
+        let head = chain.head;
+        let place = pair_words::spot_left(list.arena(), words, head, range.base, spot);
+        let done = put(list, chain, words, range, place);
+        let chain = done.chain;
+        let bytes = rest.bytes;
+        let counts = Counts {
+            chain,
+            ranges: rest.ranges,
+            bytes,
+        };
+        let fresh = done.range;
+        Entered {
+            counts,
             range: fresh,
         }
     }
@@ -64,32 +95,49 @@ impl Pair {
     // Into the block land, and where it has no room into the list. i is the number of the first pair that reaches the base.
     fn enter(
         self,
+        rest: Counts,
         words: &mut [u64],
         nodes: &mut [u64],
         range: Range,
         spot: Spot,
         i: usize,
-    ) -> Changed
-        requires { ⌜ Open self (now words) (now nodes) range spot ⌝ }
-        requires { ⌜ places.Spot (now nodes) (self .block .ranges) (range .base .0) i ⌝ }
-        ensures { λ r. ⌜ (r ≡ entered self (now (words .entry)) (now (nodes .entry)) range) × (now (words .exit) ≡ enteredWords self (now (words .entry)) (now (nodes .entry)) range) × (now (nodes .exit) ≡ enteredNodes self (now (nodes .entry)) range) ⌝ }
+    ) -> Entered
+        requires { ⌜ Open (closedBy self rest) (now words) (now nodes) range spot ⌝ }
+        requires { ⌜ places.Spot (now nodes) (rest .ranges) (range .base .0) i ⌝ }
+        ensures { λ r. ⌜ (r ≡ entered (closedBy self rest) (now (words .entry)) (now (nodes .entry)) range) × (now (words .exit) ≡ enteredWords (closedBy self rest) (now (words .entry)) (now (nodes .entry)) range) × (now (nodes .exit) ≡ enteredNodes (closedBy self rest) (now (nodes .entry)) range) ⌝ }
     {
-        let list = self.list;
-        let block = self.block;
-        match block_edits::put_at(nodes, block.ranges, i, range) {
-            block_edits::Edited::Refused => refused(self, 1),
-            block_edits::Edited::Full => self.enter_list(words, range, spot),
+        match block_edits::put_at(nodes, rest.ranges, i, range) {
+            block_edits::Edited::Refused => Entered {
+                counts: rest,
+                range,
+            },
+            block_edits::Edited::Full => self.enter_list(rest, words, range, spot),
             block_edits::Edited::Done(fresh, count) => {
-                let bytes = block.bytes.plus(range.size());
-                let block = block.close(count, bytes);
-                let pair = Pair { list, block };
-                Changed {
-                    pair,
-                    answer: 0,
+                let chain = rest.chain;
+                let held = rest.bytes;
+                let bytes = held.plus(range.size());
+                let counts = Counts {
+                    chain,
+                    ranges: count,
+                    bytes,
+                };
+                Entered {
+                    counts,
                     range: fresh,
                 }
             }
         }
+    }
+
+    // Closes both handles.
+    fn close(self, counts: Counts) -> Pair
+        ensures { λ r. ⌜ r ≡ closedBy self counts ⌝ }
+    {
+        let chain = counts.chain;
+        let bytes = counts.bytes;
+        let list = self.list.close(chain.head, chain.ranges, chain.bytes);
+        let block = self.block.close(counts.ranges, bytes);
+        Pair { list, block }
     }
 
     // Whether some byte of the range is free in either land.
@@ -108,17 +156,17 @@ impl Pair {
     // that was kept.
     fn prepared(self, words: &[u64], nodes: &mut [u64], range: Range, entry: Entry) -> Prepared
         requires { ⌜ Placed self (now words) (now nodes) range entry ⌝ }
-        ensures { λ r. ⌜ ((r .pair ≡ flushedPair self (now (words .entry)) (now (nodes .entry))) × (now (nodes .exit) ≡ flushed (self .list) (now (words .entry)) (self .block) (now (nodes .entry)) .nodes)) × places.Spot (now (nodes .exit)) (r .pair .block .ranges) (range .base .0) (r .place) ⌝ }
+        ensures { λ r. ⌜ ((r .counts ≡ flushedCounts self (now (words .entry)) (now (nodes .entry))) × (now (nodes .exit) ≡ flushedNodes self (now (words .entry)) (now (nodes .entry)))) × places.Spot (now (nodes .exit)) (r .counts .ranges) (range .base .0) (r .place) ⌝ }
     {
-        let pair = self.flushed(words, nodes);
-        if pair.list.head.same(self.list.head) {
+        let counts = self.flushed(words, nodes);
+        if counts.chain.head.same(self.list.head) {
             return Prepared {
-                pair,
+                counts,
                 place: entry.number,
             };
         }
-        let place = seeks::spot(nodes, pair.block.ranges as usize, range.base);
-        Prepared { pair, place }
+        let place = seeks::spot(nodes, counts.ranges as usize, range.base);
+        Prepared { counts, place }
     }
 
     // Insert of a range that has no free byte: the flush, then the block land, then the list.
@@ -134,8 +182,16 @@ impl Pair {
         ensures { λ r. ⌜ (r ≡ changed (inserted self (now (words .entry)) (now (nodes .entry)) range)) × (now (words .exit) ≡ inserted self (now (words .entry)) (now (nodes .entry)) range .words .list) × (now (nodes .exit) ≡ inserted self (now (words .entry)) (now (nodes .entry)) range .words .block) ⌝ }
     {
         let ready = self.prepared(words, nodes, range, entry);
-        let rest = ready.pair;
-        rest.enter(words, nodes, range, spot, ready.place)
+        let rest = ready.counts;
+        let done = self.enter(rest, words, nodes, range, spot, ready.place);
+        let counts = done.counts;
+        let pair = self.close(counts);
+        let fresh = done.range;
+        Changed {
+            pair,
+            answer: 0,
+            range: fresh,
+        }
     }
 
     // Insert in a pair that was checked, at the first ranges that reach the base of the request.

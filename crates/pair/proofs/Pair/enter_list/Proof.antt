@@ -1,4 +1,5 @@
 -- `Pair::enter_list` meets its contract: the spot that is left, and the range put in. Assumes nothing.
+use Rattle.pair.specs.Inserts.{closedBy}
 use Rattle.pair.proofs.Entering.{enter-left, enter-giving, enter-listed}
 use borrow.Author.Needs.{needs}
 use Rattle.pair.proofs.Pair.enter_list.Statement.{statement}
@@ -9,21 +10,25 @@ arena-requires c κs = search needs
 
 spot-left-requires : tie.Need-spot-left-requires
 spot-left-requires c κs =
-    let start = c .before .before .before .before .before in
-    enter-left (start .args .self) _ (start .args .range) _ (start .pre) _ (c .before .arena .ensures)
+    let arena = c .before in
+    let start = arena .before .before .before .before .before in
+    enter-left (closedBy (start .args .self) (start .args .rest)) _ (start .args .range) _ (start .pre) _ (arena .arena .ensures)
 
-give-requires : tie.Need-give-requires
-give-requires c κs =
-    let start = c .before .before .before .before .before .before .before in
-    enter-giving (start .args .self) _ (start .args .range) _ (start .pre) _ (c .before .before .before .arena .ensures) _ (c .before .spot-left .ensures)
+put-requires : tie.Need-put-requires
+put-requires c κs =
+    let spot = c .before in
+    let arena = spot .before .before in
+    let start = arena .before .before .before .before .before in
+    enter-giving (closedBy (start .args .self) (start .args .rest)) _ (start .args .range) _ (start .pre) _ (arena .arena .ensures) _ (spot .spot-left .ensures)
 
 same-length : tie.Need-same-length
 same-length c = search needs
 
 returns : tie.Need-returns
 returns c =
-    let start = c .before .before .before .before .before .before .before .before .before .before .before .before in
-    enter-listed (start .args .self) _ (start .args .range) _ (start .pre) _ _ (c .before .before .before .before .give .ensures)
+    let put = c .before .before .before .before .before in
+    let start = put .before .before .before .before .before .before .before .before .before in
+    enter-listed (closedBy (start .args .self) (start .args .rest)) _ (start .args .range) _ (start .pre) _ _ (put .put .ensures)
 
 pub enter-list-spec : {M : Type 1} → statement M
 enter-list-spec =
@@ -31,6 +36,6 @@ enter-list-spec =
     (tie.spec
     arena-requires
     spot-left-requires
-    give-requires
+    put-requires
     same-length
     returns)

@@ -1,7 +1,7 @@
--- `Pair::flushed` meets its contract: the transfer, and both handles closed. Assumes nothing.
+-- `Pair::flushed` meets its contract: the transfer, and the counts after it. Assumes nothing.
+use mathlib.Core.Path.{refl, _∙_}
 use Rattle.flush.proofs.FlushAnswers.{going, going-align, fewer, less, room, accepted}
-use Rattle.pair.proofs.Entering.{flushed-pair}
-use mathlib.Core.Path.{_∙_}
+use Rattle.pair.proofs.Entering.{flushed-counts}
 use borrow.Author.Needs.{needs}
 use Rattle.pair.proofs.Pair.flushed.Statement.{statement}
 use Rattle.pair.proofs.Pair.flushed.Tie as tie
@@ -16,33 +16,41 @@ divided-requires c κs =
 
 transfer-requires : tie.Need-transfer-requires
 transfer-requires c κs =
-    going (c .before .before .before .before .before .before .before .before .args .self .list) _ (c .before .before .before .before .before .before .before .before .args .self .block) _ (c .before .before .before .before .before .before .before .before .pre) _ (c .before .divided .ensures ∙ c .before .before .arena .ensures)
+    let divided = c .before in
+    let start = divided .before .before .before .before .before .before .before in
+    going (start .args .self .list) _ (start .args .self .block) _ (start .pre) _ (divided .divided .ensures ∙ divided .before .arena .ensures)
 
-sub-close : tie.Need-sub-close
-sub-close c =
-    fewer (c .before .before .before .before .before .before .before .before .before .before .before .before .before .before .before .args .self .list) _ (c .before .before .before .before .before .before .before .before .before .before .before .before .before .before .before .args .self .block) _ (c .before .before .before .before .before .before .before .before .before .before .before .before .before .before .before .pre) _ (c .before .before .before .before .before .before .before .before .divided .ensures ∙ c .before .before .before .before .before .before .before .before .before .arena .ensures) _ _ (c .before .before .before .before .before .before .transfer .ensures)
+sub-ranges : tie.Need-sub-ranges
+sub-ranges c =
+    let transfer = c .before .before .before .before .before in
+    let divided = transfer .before .before in
+    let start = divided .before .before .before .before .before .before .before in
+    fewer (start .args .self .list) _ (start .args .self .block) _ (start .pre) _ (divided .divided .ensures ∙ divided .before .arena .ensures) _ _ (transfer .transfer .ensures)
 
 minus-requires : tie.Need-minus-requires
 minus-requires c κs =
-    less (c .before .before .before .before .before .before .before .before .before .before .before .before .before .before .before .args .self .list) _ (c .before .before .before .before .before .before .before .before .before .before .before .before .before .before .before .args .self .block) _ (c .before .before .before .before .before .before .before .before .before .before .before .before .before .before .before .pre) _ (c .before .before .before .before .before .before .before .before .divided .ensures ∙ c .before .before .before .before .before .before .before .before .before .arena .ensures) _ _ (c .before .before .before .before .before .before .transfer .ensures)
-
-close-requires : tie.Need-close-requires
-close-requires c κs = search needs
+    let transfer = c .before .before .before .before .before .before .before in
+    let divided = transfer .before .before in
+    let start = divided .before .before .before .before .before .before .before in
+    less (start .args .self .list) _ (start .args .self .block) _ (start .pre) _ (divided .divided .ensures ∙ divided .before .arena .ensures) _ _ (transfer .transfer .ensures)
 
 plus-requires : tie.Need-plus-requires
 plus-requires c κs =
-    room (c .before .before .before .before .before .before .before .before .before .before .before .before .before .before .before .before .before .args .self .list) _ (c .before .before .before .before .before .before .before .before .before .before .before .before .before .before .before .before .before .args .self .block) _ (c .before .before .before .before .before .before .before .before .before .before .before .before .before .before .before .before .before .pre) _ (c .before .before .before .before .before .before .before .before .before .before .divided .ensures ∙ c .before .before .before .before .before .before .before .before .before .before .before .arena .ensures) _ _ (c .before .before .before .before .before .before .before .before .transfer .ensures)
-
-close-requires-2 : tie.Need-close-requires-2
-close-requires-2 c κs = search needs
+    let transfer = c .before .before .before .before .before .before .before .before in
+    let divided = transfer .before .before in
+    let start = divided .before .before .before .before .before .before .before in
+    room (start .args .self .list) _ (start .args .self .block) _ (start .pre) _ (divided .divided .ensures ∙ divided .before .arena .ensures) _ _ (transfer .transfer .ensures)
 
 same-length : tie.Need-same-length
 same-length c = search needs
 
 returns : tie.Need-returns
 returns c =
-    flushed-pair (c .before .before .before .before .before .before .before .before .before .before .before .before .before .before .before .before .before .before .before .args .self) _ _ _ _ _ _ _
-    (accepted (c .before .before .before .before .before .before .before .before .before .before .before .before .before .before .before .before .before .before .before .args .self .list) _ (c .before .before .before .before .before .before .before .before .before .before .before .before .before .before .before .before .before .before .before .args .self .block) _ (c .before .before .before .before .before .before .before .before .before .before .before .before .before .before .before .before .before .before .before .pre) _ (c .before .before .before .before .before .before .before .before .before .before .before .before .divided .ensures ∙ c .before .before .before .before .before .before .before .before .before .before .before .before .before .arena .ensures) _ _ (c .before .before .before .before .before .before .before .before .before .before .transfer .ensures) _ (c .before .before .before .minus .ensures) _ (c .before .before .close .ensures) _ (c .before .plus .ensures) _ (c .close2 .ensures))
+    let transfer = c .before .before .before .before .before .before .before .before .before in
+    let divided = transfer .before .before in
+    let start = divided .before .before .before .before .before .before .before in
+    flushed-counts (start .args .self) _ _ (start .pre) _ _ _ _ _
+    (accepted (start .args .self .list) _ (start .args .self .block) _ (start .pre) _ (divided .divided .ensures ∙ divided .before .arena .ensures) _ _ (transfer .transfer .ensures) _ (c .before .minus .ensures) _ refl _ (c .plus .ensures) _ refl)
 
 pub flushed-spec : {M : Type 1} → statement M
 flushed-spec =
@@ -51,10 +59,8 @@ flushed-spec =
     arena-requires
     divided-requires
     transfer-requires
-    sub-close
+    sub-ranges
     minus-requires
-    close-requires
     plus-requires
-    close-requires-2
     same-length
     returns)

@@ -25,11 +25,21 @@ refused-requires c κs = search needs
 
 returns : tie.Need-returns
 returns c =
-    asked-4 _ _ _ (c .before .before .before .before .before .before .before .args .range) _ _ (c .before .before .before .before .before .before .before .pre) _ (c .before .before .before .before .arena .ensures) _ (c .before .before .before .divided .ensures) _ (c .before .before .check-range .ensures) changed _ _ (is-insert _ _ _ (c .before .before .before .before .before .before .before .args .range)) (λ g. rw g) (c .before .match .keys2) _ (c .refused .ensures)
+    let checked = c .before .before in
+    let divided = checked .before in
+    let arena = divided .before in
+    let start = arena .before .before .before in
+    asked-4 _ _ _ (start .args .range) _ _ (start .pre) _ (arena .arena .ensures) _ (divided .divided .ensures) _ (checked .check-range .ensures)
+    changed _ _ (is-insert _ _ _ (start .args .range)) (λ g. rw g) (c .before .match .keys2) _ (c .refused .ensures)
 
 taken-requires : tie.Need-taken-requires
 taken-requires c κs =
-    asked-good _ _ _ (c .before .before .before .before .before .before .before .before .before .args .range) _ _ (c .before .before .before .before .before .before .before .before .before .pre) _ (c .before .before .before .before .before .before .arena .ensures) _ (c .before .before .before .before .before .divided .ensures) _ (c .before .before .before .before .check-range .ensures) (c .before .before .enum-told .given .1)
+    let told = c .before .before in
+    let checked = told .before .before in
+    let divided = checked .before in
+    let arena = divided .before in
+    let start = arena .before .before .before in
+    asked-good _ _ _ (start .args .range) _ _ (start .pre) _ (arena .arena .ensures) _ (divided .divided .ensures) _ (checked .check-range .ensures) (told .enum-told .given .1)
 
 refused-requires-2 : tie.Need-refused-requires-2
 refused-requires-2 c κs = search needs
@@ -42,15 +52,25 @@ same-length-2 c = search needs
 
 returns-2 : tie.Need-returns-2
 returns-2 c =
-    taken-1 _ _ _ (c .before .before .before .before .before .before .before .before .before .before .before .before .args .range) _ _
-    (asked-good _ _ _ (c .before .before .before .before .before .before .before .before .before .before .before .before .args .range) _ _ (c .before .before .before .before .before .before .before .before .before .before .before .before .pre) _ (c .before .before .before .before .before .before .before .before .before .arena .ensures) _ (c .before .before .before .before .before .before .before .before .divided .ensures) _ (c .before .before .before .before .before .before .before .check-range .ensures) (c .before .before .before .before .before .enum-told .given .1))
-    _ (c .before .before .taken .ensures) (c .before .if1 .taken) _ (c .refused2 .ensures)
+    let taken = c .before .before in
+    let told = taken .before .before .before in
+    let checked = told .before .before in
+    let divided = checked .before in
+    let arena = divided .before in
+    let start = arena .before .before .before in
+    let wanted = asked-good _ _ _ (start .args .range) _ _ (start .pre) _ (arena .arena .ensures) _ (divided .divided .ensures) _ (checked .check-range .ensures) (told .enum-told .given .1) in
+    taken-1 _ _ _ (start .args .range) _ _ wanted _ (taken .taken .ensures) (c .before .if1 .taken) _ (c .refused2 .ensures)
 
 insert-bare-requires : tie.Need-insert-bare-requires
 insert-bare-requires c κs =
-    not-taken _ _ _ (c .before .before .before .before .before .before .before .before .before .before .before .before .before .args .range) _ _
-    (asked-good _ _ _ (c .before .before .before .before .before .before .before .before .before .before .before .before .before .args .range) _ _ (c .before .before .before .before .before .before .before .before .before .before .before .before .before .pre) _ (c .before .before .before .before .before .before .before .before .before .before .arena .ensures) _ (c .before .before .before .before .before .before .before .before .before .divided .ensures) _ (c .before .before .before .before .before .before .before .before .check-range .ensures) (c .before .before .before .before .before .before .enum-told .given .1))
-    _ (c .before .before .before .taken .ensures) (c .before .before .if1 .left)
+    let taken = c .before .before .before in
+    let told = taken .before .before .before in
+    let checked = told .before .before in
+    let divided = checked .before in
+    let arena = divided .before in
+    let start = arena .before .before .before in
+    let wanted = asked-good _ _ _ (start .args .range) _ _ (start .pre) _ (arena .arena .ensures) _ (divided .divided .ensures) _ (checked .check-range .ensures) (told .enum-told .given .1) in
+    not-taken _ _ _ (start .args .range) _ _ wanted _ (taken .taken .ensures) (c .before .before .if1 .left)
 
 same-length-3 : tie.Need-same-length-3
 same-length-3 c = search needs
