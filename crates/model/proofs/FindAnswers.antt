@@ -1,5 +1,5 @@
 -- The ways out of a find of a land: 5, 6, 4, 2, the range as it stands, and a part of it taken out. Assumes nothing.
-use Prim.Native.Nat.{ℕ, _+_, _≤_}
+use Prim.Native.Nat.{ℕ, _+_, _≤_, _<_}
 use mathlib.Core.Bool.{Bool, true, false}
 use mathlib.Core.List.{List, [], _∷_}
 use mathlib.Core.Option.{Option, none, some}
@@ -76,6 +76,27 @@ module _ {H L S C F : Type 0} (I : Land H L S C F) (h : H) (ws : List ℕ) where
         let e : aim ≡ find-aim w n = f ∙ ap (λ (x : SizeCheck). findAim x w m) g ∙ ap (λ (x : ℕ). Aim.Find w (record { 0 = x })) (size-is n a ea m em) in
         (rw e at k, size-good (I .layout .arena h ws) a (ea ∙ I .arena-is h ws) w (n .0) r er g)
 
+  -- WHAT WAS KEPT IS THE RANGE CHOSEN
+  module _ (w : Which) (n : Size) (s : S) (k : Kept I h ws (find-aim w n) s) where
+    pub chosen : I .here s ≡ here-of (choose w (find-size (I .layout .arena h ws) (n .0)) (I .ranges h ws))
+    chosen =
+        is-kept I h ws (find-aim w n) s k
+        ∙ ap here-of (by-find (record { 0 = find-size (I .layout .arena h ws) (n .0) }) w (I .layout .arena h ws .base) (I .layout .arena h ws .limit) (I .ranges h ws)
+        (I .above h ws (k .good)) (fine I h ws (find-aim w n) s k .canon .apart))
+
+    pub chosen-above : (q : Range) → choose w (find-size (I .layout .arena h ws) (n .0)) (I .ranges h ws) ≡ some q → 0 < q .base
+    chosen-above q p = mem-above I h ws (find-aim w n) s k q (choose-mem w (find-size (I .layout .arena h ws) (n .0)) (I .ranges h ws) q p .0)
+
+    pub chosen-order : I .here s .base .0 ≤ I .here s .limit .0
+    chosen-order = rw chosen (go (choose w (find-size (I .layout .arena h ws) (n .0)) (I .ranges h ws)) refl)
+      where
+        go : (o : Option Range) → choose w (find-size (I .layout .arena h ws) (n .0)) (I .ranges h ws) ≡ o → here-of o .base .0 ≤ here-of o .limit .0
+        go none e = omega arith
+        go (some q) e =
+            let m = mem-proper (I .layout .arena h ws .base) (I .layout .arena h ws .limit) (I .ranges h ws) q (fine I h ws (find-aim w n) s k .canon .apart)
+            (choose-mem w (find-size (I .layout .arena h ws) (n .0)) (I .ranges h ws) q e .0) in
+            omega arith
+
   -- A FIND OF A GOOD SIZE, AT WHAT WAS KEPT
   module _ (w : Which) (n : Size) (mode : Mode) (s : S) (k : Kept I h ws (find-aim w n) s) (g : good-size (I .layout .arena h ws) w (n .0) ≡ true)
       (t : Bool) (et : t ≡ eqb (I .here s .base .0) 0) where
@@ -88,19 +109,14 @@ module _ {H L S C F : Type 0} (I : Land H L S C F) (h : H) (ws : List ℕ) where
     abbrev aim : Aim
     aim = find-aim w n
 
-    chosen : I .here s ≡ here-of (choose w (find-size (I .layout .arena h ws) (n .0)) (I .ranges h ws))
-    chosen =
-        is-kept I h ws aim s k
-        ∙ ap here-of (by-find (record { 0 = want }) w (I .layout .arena h ws .base) (I .layout .arena h ws .limit) rs (I .above h ws (k .good)) (fine I h ws aim s k .canon .apart))
-
     pub find-2 : t ≡ true → (v : F) → v ≡ I .find-made h 2 none-range none-range → Finds I v ws (I .does (find w (n .0) mode) h ws)
     find-2 f v e =
-        let o = none-chosen (I .here s) (choose w want rs) chosen (λ q p. mem-above I h ws aim s k q (choose-mem w want rs q p .0)) (sym et ∙ f) in
+        let o = none-chosen (I .here s) (choose w want rs) (chosen w n s k) (chosen-above w n s k) (sym et ∙ f) in
         refused-find I h ws (find w (n .0) mode) 2 (step-refused I h ws aim s k (find w (n .0) mode) 2 refl (rw (g, o))) v e ws refl
 
     module _ (f : t ≡ false) where
       pub choice : Choice (choose w (find-size (I .layout .arena h ws) (n .0)) (I .ranges h ws)) (I .here s)
-      choice = some-chosen (I .here s) (choose w want rs) chosen (sym et ∙ f)
+      choice = some-chosen (I .here s) (choose w want rs) (chosen w n s k) (sym et ∙ f)
 
       abbrev q : Range
       q = choice .range

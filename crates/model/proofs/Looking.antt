@@ -26,17 +26,17 @@ use Rattle.model.proofs.Outcomes.{call-fault, call-refused, call-accept
 abbrev pub said : Bool → Bool → ℕ
 said g s = cond g (cond s 0 6) 5
 
-said-5 : (g s : Bool) → said g s ≡ 5 → g ≡ false
+pub said-5 : (g s : Bool) → said g s ≡ 5 → g ≡ false
 said-5 false s e = refl
 said-5 true false e = absurd (omega arith)
 said-5 true true e = absurd (omega arith)
 
-said-6 : (g s : Bool) → said g s ≡ 6 → (g ≡ true) × (s ≡ false)
+pub said-6 : (g s : Bool) → said g s ≡ 6 → (g ≡ true) × (s ≡ false)
 said-6 false s e = absurd (omega arith)
 said-6 true false e = (refl, refl)
 said-6 true true e = absurd (omega arith)
 
-said-0 : (g s : Bool) → said g s ≡ 0 → (g ≡ true) × (s ≡ true)
+pub said-0 : (g s : Bool) → said g s ≡ 0 → (g ≡ true) × (s ≡ true)
 said-0 false s e = absurd (omega arith)
 said-0 true false e = absurd (omega arith)
 said-0 true true e = (refl, refl)

@@ -20,24 +20,24 @@ use Rattle.list_land.proofs.Sound as list-sound
 use Rattle.block_words.specs.declared.Entry.{Entry}
 use Rattle.block_land.specs.Layout as block
 use Rattle.block_land.specs.Parts as block-parts
-use Rattle.block_land.proofs.EditAnswers as edits
+use Rattle.block_land.proofs.Requests as block-requests
 use Rattle.block_land.proofs.Sound as block-sound
 use Rattle.pair_model.specs.Pairs.{PairCall, both, keep, pair-step}
 use Rattle.pair.specs.Calls.{PairDone, called}
 use Rattle.pair.specs.Parts.{Checked, Ranged}
 use Rattle.pair.specs.declared.Pair.{Pair}
-use Rattle.pair.proofs.Calling.{Hands, refusal, refuse, list-sought, block-aimed, refuses}
+use Rattle.pair.proofs.Calling.{Hands, refusal, refuse, list-looked, block-looked, refuses}
 use Rattle.pair.proofs.Checking.{same-up}
 
 module _ (p : Pair) (ws vs : List ℕ) {aim : Aim} (y : units.Range) (s : Spot) (e : Entry) where
   -- THE RANGE RULE
   module _ (k : Checked p ws vs aim s e) (a : units-arena.Arena) (ea : a ≡ block-parts.arenaIn (p .block)) where
     pub asked-align : goodAlign (a .align .0) ≡ true
-    asked-align = rw ea (edits.aimed-align (p .block) vs aim e (block-aimed p ws vs aim s e k))
+    asked-align = rw ea (block-requests.looked-align (p .block) vs aim e (block-looked p ws vs aim s e k))
 
     module _ (a' : units-arena.Arena) (ea' : a' ≡ a) where
       pub asked-positive : 0 < a' .align .0
-      asked-positive = edits.aimed-positive (p .block) vs aim e (block-aimed p ws vs aim s e k) a' (ea' ∙ ea)
+      asked-positive = block-requests.looked-positive (p .block) vs aim e (block-looked p ws vs aim s e k) a' (ea' ∙ ea)
 
       module _ (r : RangeCheck) (er : r ≡ rangeCheck (a' .base .0) (a' .limit .0) (a' .align .0) (y .base .0) (y .limit .0)) where
         -- of any call that answers 4 where the rule is broken
@@ -57,19 +57,19 @@ module _ (p : Pair) (ws vs : List ℕ) {aim : Aim} (y : units.Range) (s : Spot) 
   -- A REQUEST THAT KEEPS IT
   module _ (k : Ranged p ws vs aim y s e) where
     pub list-fine : list-sound.Fine (p .list) ws
-    list-fine = let f = list-sought p ws vs aim s e (k .checked) in list-sound.fine (p .list) ws (f .good) (f .whole)
+    list-fine = let f = list-looked p ws vs aim s e (k .checked) in list-sound.fine (p .list) ws (f .good) (f .whole)
 
     pub block-fine : block-sound.Fine (p .block) vs
-    block-fine = let f = block-aimed p ws vs aim s e (k .checked) in block-sound.fine (p .block) vs (f .good) (f .whole)
+    block-fine = let f = block-looked p ws vs aim s e (k .checked) in block-sound.fine (p .block) vs (f .good) (f .whole)
 
     pub readable : block-parts.Readable (p .block) vs
-    readable = edits.readable (p .block) vs aim e (block-aimed p ws vs aim s e (k .checked))
+    readable = block-requests.readable (p .block) vs aim e (block-looked p ws vs aim s e (k .checked))
 
     pub order : y .base .0 < y .limit .0
-    order = edits.edit-order (p .block) vs y readable (k .good)
+    order = block-requests.edit-order (p .block) vs y (k .good)
 
     pub order-le : y .base .0 ≤ y .limit .0
-    order-le = edits.edit-order-le (p .block) vs y readable (k .good)
+    order-le = block-requests.edit-order-le (p .block) vs y (k .good)
 
     pub list-good : good-range (list.arenaOf (p .list)) (y .base .0) (y .limit .0) ≡ true
     list-good = let o = same-up p ws vs (k .checked .good) in rw (o .base, o .limit, o .align) (k .good)

@@ -11,19 +11,20 @@ use Rattle.units.proofs.Tests.{by, and-left, and-right}
 use Rattle.model.specs.Calls.{refused, accepted}
 use Rattle.model.specs.Layouts.{Reading, fault, holding}
 use Rattle.model.specs.Marks.{Range}
+use Rattle.model.proofs.Looking.{said, said-5, said-6, said-0}
 use Rattle.model.proofs.Outcomes.{fault-number}
 use Rattle.list_words.specs.Laying.{lay}
 use Rattle.list_words.specs.Surveys.{kept-of}
 use Rattle.list_words.specs.declared.Spot.{Spot}
 use Rattle.list_land.specs.Layout as list
-use Rattle.list_land.specs.Parts.{Sought}
-use Rattle.list_land.proofs.LayoutLaws as list-laws
+use Rattle.list_land.specs.Parts as list-parts
+use Rattle.list_land.proofs.Land as list-land
 use Rattle.block_words.specs.Words.{fill}
 use Rattle.block_words.specs.Surveys.{entryOf}
 use Rattle.block_words.specs.declared.Entry.{Entry}
 use Rattle.block_land.specs.Layout as block
-use Rattle.block_land.specs.Parts.{Aimed}
-use Rattle.block_land.proofs.LayoutLaws as block-laws
+use Rattle.block_land.specs.Parts as block-parts
+use Rattle.block_land.proofs.Land as block-land
 use Rattle.flush.specs.Flush.{sameArena}
 use Rattle.flush.specs.Flush as flush-check
 use Rattle.flush.specs.declared.FlushCheck.{FlushCheck}
@@ -52,21 +53,21 @@ module _ (p : Pair) (ws vs : List ℕ) where
       (λ a. by (block.setUp (p .block) vs)
       (λ b. let c : sameArena (p .list) (p .block) ≡ false = rw (a, b) at g in differ a b c)
       (λ b. let l = list-read a in l (list.sound (p .list) ws) refl b))
-      (λ a. rw (list-laws.reads-5 (p .list) ws a))
+      (λ a. rw (list-land.reads-as (p .list) ws, a))
     where
       differ : list.setUp (p .list) ws ≡ true → block.setUp (p .block) vs ≡ true → sameArena (p .list) (p .block) ≡ false → reads ≡ fault 5
       differ a b c =
           by (list.sound (p .list) ws)
           (λ s. by (block.sound (p .block) vs)
-          (λ t. rw (list-laws.held (p .list) ws a s, block-laws.held (p .block) vs b t, c))
-          (λ t. rw (list-laws.held (p .list) ws a s, block-laws.reads-6 (p .block) vs b t, c)))
+          (λ t. rw (list-land.reads-as (p .list) ws, a, s, block-land.reads-as (p .block) vs, b, t, c))
+          (λ t. rw (list-land.reads-as (p .list) ws, a, s, block-land.reads-as (p .block) vs, b, t, c)))
           (λ s. by (block.sound (p .block) vs)
-          (λ t. rw (list-laws.reads-6 (p .list) ws a s, block-laws.held (p .block) vs b t, c))
-          (λ t. rw (list-laws.reads-6 (p .list) ws a s, block-laws.reads-6 (p .block) vs b t, c)))
+          (λ t. rw (list-land.reads-as (p .list) ws, a, s, block-land.reads-as (p .block) vs, b, t, c))
+          (λ t. rw (list-land.reads-as (p .list) ws, a, s, block-land.reads-as (p .block) vs, b, t, c)))
 
       list-read : list.setUp (p .list) ws ≡ true → (s : Bool) → list.sound (p .list) ws ≡ s → block.setUp (p .block) vs ≡ false → reads ≡ fault 5
-      list-read a true e b = rw (list-laws.held (p .list) ws a e, block-laws.reads-5 (p .block) vs b)
-      list-read a false e b = rw (list-laws.reads-6 (p .list) ws a e, block-laws.reads-5 (p .block) vs b)
+      list-read a true e b = rw (list-land.reads-as (p .list) ws, a, e, block-land.reads-as (p .block) vs, b)
+      list-read a false e b = rw (list-land.reads-as (p .list) ws, a, e, block-land.reads-as (p .block) vs, b)
 
   module _ (g : setUp p ws vs ≡ true) where
     same : sameArena (p .list) (p .block) ≡ true
@@ -78,11 +79,11 @@ module _ (p : Pair) (ws vs : List ℕ) where
         by (list.sound (p .list) ws)
         (λ s. by (block.sound (p .block) vs)
         (λ t. let m : not (meet rs qs) ≡ false = rw (s, t) at n in
-        rw (list-laws.held (p .list) ws (list-up p ws vs g) s, block-laws.held (p .block) vs (block-up p ws vs g) t, same, not-false (meet rs qs) m))
-        (λ t. rw (list-laws.held (p .list) ws (list-up p ws vs g) s, block-laws.reads-6 (p .block) vs (block-up p ws vs g) t, same)))
+        rw (list-land.reads-as (p .list) ws, (list-up p ws vs g), s, block-land.reads-as (p .block) vs, (block-up p ws vs g), t, same, not-false (meet rs qs) m))
+        (λ t. rw (list-land.reads-as (p .list) ws, (list-up p ws vs g), s, block-land.reads-as (p .block) vs, (block-up p ws vs g), t, same)))
         (λ s. by (block.sound (p .block) vs)
-        (λ t. rw (list-laws.reads-6 (p .list) ws (list-up p ws vs g) s, block-laws.held (p .block) vs (block-up p ws vs g) t, same))
-        (λ t. rw (list-laws.reads-6 (p .list) ws (list-up p ws vs g) s, block-laws.reads-6 (p .block) vs (block-up p ws vs g) t, same)))
+        (λ t. rw (list-land.reads-as (p .list) ws, (list-up p ws vs g), s, block-land.reads-as (p .block) vs, (block-up p ws vs g), t, same))
+        (λ t. rw (list-land.reads-as (p .list) ws, (list-up p ws vs g), s, block-land.reads-as (p .block) vs, (block-up p ws vs g), t, same)))
 
     pub reads-both : sound p ws vs ≡ true → reads ≡ holding (both rs qs)
     reads-both n =
@@ -90,7 +91,7 @@ module _ (p : Pair) (ws vs : List ℕ) where
         let r = and-right (list.sound (p .list) ws) _ n in
         let t = and-left (block.sound (p .block) vs) _ r in
         let m = not-true (meet rs qs) (and-right (block.sound (p .block) vs) _ r) in
-        rw (list-laws.held (p .list) ws (list-up p ws vs g) s, block-laws.held (p .block) vs (block-up p ws vs g) t, same, m)
+        rw (list-land.reads-as (p .list) ws, (list-up p ws vs g), s, block-land.reads-as (p .block) vs, (block-up p ws vs g), t, same, m)
 
 -- the number of a check is the number that the handles and the words are read with
 pub check-number : (p : Pair) (ws vs : List ℕ) (aim : Aim) → checkNumber (checkOf p ws vs aim) ≡ fault-number (reads p ws vs)
@@ -115,49 +116,37 @@ pub refuse : {R : Type 0} (f : PairDone → R) (p : Pair) (ws vs : List ℕ) (n 
     (w : R) → w ≡ f (refusal p ws vs n) → Hands f d w ws vs
 refuse f p ws vs n d e w ew = (ew ∙ ap f (sym e), rw e, rw e)
 
+-- 5 and 6, of any call
+module _ {R : Type 0} (f : PairDone → R) (p : Pair) (ws vs : List ℕ) (c : PairCall) (d : PairDone) (ed : d ≡ called c p ws vs) where
+  pub bad-is-5 : setUp p ws vs ≡ false → (w : R) → w ≡ f (refusal p ws vs 5) → Hands f d w ws vs
+  bad-is-5 g = refuse f p ws vs 5 d (ed ∙ rw (reads-5 p ws vs g))
+
+  pub damaged-is-6 : setUp p ws vs ≡ true → sound p ws vs ≡ false → (w : R) → w ≡ f (refusal p ws vs 6) → Hands f d w ws vs
+  damaged-is-6 g t = refuse f p ws vs 6 d (ed ∙ rw (reads-6 p ws vs g t))
+
 -- WHAT A CHECK SAYS
-module _ (p : Pair) (ws vs : List ℕ) (aim : Aim) where
-  abbrev spot : Spot
-  spot = kept-of aim (list.walkOf (p .list) ws .met)
+module _ (p : Pair) (ws vs : List ℕ) (aim : Aim) (v : PairCheck) (ev : v ≡ checkOf p ws vs aim) where
+  told : checkNumber v ≡ said (setUp p ws vs) (sound p ws vs)
+  unfolding checkOf
+  told =
+      ap checkNumber ev
+      ∙ by (setUp p ws vs) (λ g. by (sound p ws vs) (λ t. rw (g, t)) (λ t. rw (g, t))) (λ g. rw g)
 
-  abbrev entry : Entry
-  entry = entryOf aim (block.tableOf (p .block) vs)
+  pub saw-checked : (s : Spot) (e : Entry) → v ≡ PairCheck.Good s e → Checked p ws vs aim s e
+  unfolding checkOf
+  saw-checked s e f =
+      let t = said-0 (setUp p ws vs) (sound p ws vs) (sym told ∙ ap checkNumber f) in
+      let q : v ≡ PairCheck.Good (kept-of aim (list.walkOf (p .list) ws .met)) (entryOf aim (block.tableOf (p .block) vs)) = rw (t .0, t .1) at ev in
+      record { good = t .0; whole = t .1; spot = cc; entry = cc }
 
-  bad : (g t : Bool) (v : PairCheck) → v ≡ cond g (cond t (PairCheck.Good spot entry) PairCheck.Damaged) PairCheck.BadSetUp → v ≡ PairCheck.BadSetUp → g ≡ false
-  bad false t v e f = refl
-  bad true false v e f = let z : _≡_ {A = ℕ} 0 1 = cc in absurd (omega arith)
-  bad true true v e f = let z : _≡_ {A = ℕ} 0 1 = cc in absurd (omega arith)
+  module _ {R : Type 0} (g : PairDone → R) (c : PairCall) (d : PairDone) (ed : d ≡ called c p ws vs) where
+    pub answers-5 : v ≡ PairCheck.BadSetUp → (w : R) → w ≡ g (refusal p ws vs 5) → Hands g d w ws vs
+    answers-5 f = bad-is-5 g p ws vs c d ed (said-5 (setUp p ws vs) (sound p ws vs) (sym told ∙ ap checkNumber f))
 
-  damaged : (g t : Bool) (v : PairCheck) → v ≡ cond g (cond t (PairCheck.Good spot entry) PairCheck.Damaged) PairCheck.BadSetUp → v ≡ PairCheck.Damaged → (g ≡ true) × (t ≡ false)
-  damaged false t v e f = let z : _≡_ {A = ℕ} 0 1 = cc in absurd (omega arith)
-  damaged true false v e f = (refl, refl)
-  damaged true true v e f = let z : _≡_ {A = ℕ} 0 1 = cc in absurd (omega arith)
-
-  whole : (g t : Bool) (v : PairCheck) → v ≡ cond g (cond t (PairCheck.Good spot entry) PairCheck.Damaged) PairCheck.BadSetUp → (s : Spot) (e : Entry) → v ≡ PairCheck.Good s e →
-      (g ≡ true) × (t ≡ true) × (s ≡ spot) × (e ≡ entry)
-  whole false t v d s e f = let z : _≡_ {A = ℕ} 0 1 = cc in absurd (omega arith)
-  whole true false v d s e f = let z : _≡_ {A = ℕ} 0 1 = cc in absurd (omega arith)
-  whole true true v d s e f = (refl, refl, cc, cc)
-
-  module _ (v : PairCheck) (ev : v ≡ checkOf p ws vs aim) where
-    pub saw-checked : (s : Spot) (e : Entry) → v ≡ PairCheck.Good s e → Checked p ws vs aim s e
-    unfolding checkOf
-    saw-checked s e f = let w = whole (setUp p ws vs) (sound p ws vs) v ev s e f in record { good = w .0; whole = w .1; spot = w .2; entry = w .3 }
-
-    -- 5 and 6, of any call
-    module _ {R : Type 0} (g : PairDone → R) (c : PairCall) (d : PairDone) (ed : d ≡ called c p ws vs) where
-      pub answers-5 : v ≡ PairCheck.BadSetUp → (w : R) → w ≡ g (refusal p ws vs 5) → Hands g d w ws vs
-      unfolding checkOf
-      answers-5 f =
-          let e : called c p ws vs ≡ refusal p ws vs 5 = rw (reads-5 p ws vs (bad (setUp p ws vs) (sound p ws vs) v ev f)) in
-          refuse g p ws vs 5 d (ed ∙ e)
-
-      pub answers-6 : v ≡ PairCheck.Damaged → (w : R) → w ≡ g (refusal p ws vs 6) → Hands g d w ws vs
-      unfolding checkOf
-      answers-6 f =
-          let t = damaged (setUp p ws vs) (sound p ws vs) v ev f in
-          let e : called c p ws vs ≡ refusal p ws vs 6 = rw (reads-6 p ws vs (t .0) (t .1)) in
-          refuse g p ws vs 6 d (ed ∙ e)
+    pub answers-6 : v ≡ PairCheck.Damaged → (w : R) → w ≡ g (refusal p ws vs 6) → Hands g d w ws vs
+    answers-6 f =
+        let t = said-6 (setUp p ws vs) (sound p ws vs) (sym told ∙ ap checkNumber f) in
+        damaged-is-6 g p ws vs c d ed (t .0) (t .1)
 
 -- A PAIR THAT WAS CHECKED
 module _ (p : Pair) (ws vs : List ℕ) (aim : Aim) (s : Spot) (e : Entry) (k : Checked p ws vs aim s e) where
@@ -173,11 +162,11 @@ module _ (p : Pair) (ws vs : List ℕ) (aim : Aim) (s : Spot) (e : Entry) (k : C
   pub apart : meet (list.walkOf (p .list) ws .met) (block.tableOf (p .block) vs) ≡ false
   apart = not-true (meet (list.walkOf (p .list) ws .met) (block.tableOf (p .block) vs)) (and-right (block.sound (p .block) vs) _ rest)
 
-  pub list-sought : Sought (p .list) ws aim s
-  list-sought = record { good = list-up p ws vs (k .good); whole = list-sound; kept = k .spot }
+  pub list-looked : list-parts.Looked (p .list) ws aim s
+  list-looked = record { good = list-up p ws vs (k .good); whole = list-sound; kept = k .spot }
 
-  pub block-aimed : Aimed (p .block) vs aim e
-  block-aimed = record { good = block-up p ws vs (k .good); whole = block-sound; kept = k .entry }
+  pub block-looked : block-parts.Looked (p .block) vs aim e
+  block-looked = record { good = block-up p ws vs (k .good); whole = block-sound; kept = k .entry }
 
   pub flush-checked : flush-check.checkOf (p .list) ws (p .block) vs ≡ FlushCheck.Good
   flush-checked = flush-good p ws vs (k .good) list-sound block-sound

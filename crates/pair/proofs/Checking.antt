@@ -102,87 +102,84 @@ unfolding flush-check.checkOf
 flush-good p ws vs g s t =
     rw (list-up p ws vs g, block-up p ws vs g, and-right (block.setUp (p .block) vs) (sameArena (p .list) (p .block)) (rest-up p ws vs g), s, t)
 
--- the checks one after the other
-module _ (p : Pair) (ws vs : List ℕ) (aim : Aim) (r : SetUp) (er : r ≡ setUpOf (setUp p ws vs)) where
-  pub check-up : r ≡ SetUp.Bad → PairCheck.BadSetUp ≡ checkOf p ws vs aim
-  unfolding checkOf
-  check-up f = rw (set-up-false (setUp p ws vs) r er f)
+-- the set-up, then the look
+pub check-up : (p : Pair) (ws vs : List ℕ) (aim : Aim) (r : SetUp) → r ≡ setUpOf (setUp p ws vs) → r ≡ SetUp.Bad → PairCheck.BadSetUp ≡ checkOf p ws vs aim
+unfolding checkOf
+check-up p ws vs aim r er f = rw (set-up-false (setUp p ws vs) r er f)
 
-  module _ (f : r ≡ SetUp.Good) where
-    good : setUp p ws vs ≡ true
-    good = set-up-true (setUp p ws vs) r er f
+-- the look of a call whose set-up is good
+module _ (p : Pair) (ws vs : List ℕ) (aim : Aim) (good : setUp p ws vs ≡ true) where
+  at : list-sound.Placed (p .list) (length ws)
+  at = list-sound.placed (p .list) ws (list-up p ws vs good)
 
-    at : list-sound.Placed (p .list) (length ws)
-    at = list-sound.placed (p .list) ws (list-up p ws vs good)
+  pub check-align : (b : units.Arena) → b ≡ list-parts.arenaIn (p .list) → goodAlign (b .align .0) ≡ true
+  check-align b eb = rw eb (at .arena .align)
 
-    pub check-align : (b : units.Arena) → b ≡ list-parts.arenaIn (p .list) → goodAlign (b .align .0) ≡ true
-    check-align b eb = rw eb (at .arena .align)
+  module _ (a : units.Arena) (ea : a ≡ list-parts.arenaIn (p .list)) where
+    pub check-arena : Ready a
+    check-arena = rw ea (at .ready .arena)
 
-    module _ (a : units.Arena) (ea : a ≡ list-parts.arenaIn (p .list)) where
-      pub check-arena : Ready a
-      check-arena = rw ea (at .ready .arena)
+    pub check-words : (b : units.Arena) → b ≡ a → list-words.Ready b (length ws)
+    check-words b eb = rw (eb ∙ ea) (at .ready)
 
-      pub check-words : (b : units.Arena) → b ≡ a → list-words.Ready b (length ws)
-      check-words b eb = rw (eb ∙ ea) (at .ready)
+    abbrev n : ℕ
+    n = p .block .ranges
 
-      abbrev n : ℕ
-      n = p .block .ranges
+    abbrev table : Bool
+    table = soundTable (a .base .0) (a .limit .0) (a .align .0) vs n (p .block .bytes .0)
 
-      abbrev table : Bool
-      table = soundTable (a .base .0) (a .limit .0) (a .align .0) vs n (p .block .bytes .0)
+    is-table : table ≡ block.sound (p .block) vs
+    unfolding block.sound
+    is-table = let o = same-up p ws vs good in rw (ea, o .base, o .limit, o .align)
 
-      is-table : table ≡ block.sound (p .block) vs
-      unfolding block.sound
-      is-table = let o = same-up p ws vs good in rw (ea, o .base, o .limit, o .align)
+    module _ (o : Soundness) (eo : o ≡ soundnessOf table) where
+      pub check-table : o ≡ Soundness.Damaged → PairCheck.Damaged ≡ checkOf p ws vs aim
+      unfolding checkOf
+      check-table g =
+          let t : block.sound (p .block) vs ≡ false = sym is-table ∙ sound-false table o eo g in
+          rw (good, t, and-false (list.sound (p .list) ws))
 
-      module _ (o : Soundness) (eo : o ≡ soundnessOf table) where
-        pub check-table : o ≡ Soundness.Damaged → PairCheck.Damaged ≡ checkOf p ws vs aim
-        unfolding checkOf
-        check-table g =
-            let t : block.sound (p .block) vs ≡ false = sym is-table ∙ sound-false table o eo g in
-            rw (good, t, and-false (list.sound (p .list) ws))
+      module _ (g : o ≡ Soundness.Sound) where
+        table-sound : table ≡ true
+        table-sound = sound-true table o eo g
 
-        module _ (g : o ≡ Soundness.Sound) where
-          table-sound : table ≡ true
-          table-sound = sound-true table o eo g
+        pub check-rising : Rising vs n
+        check-rising = sound-rising a vs n (p .block .bytes) check-arena table-sound
 
-          pub check-rising : Rising vs n
-          check-rising = sound-rising a vs n (p .block .bytes) check-arena table-sound
+        module _ (b : units.Arena) (eb : b ≡ a) (h : Chain) (eh : h ≡ list-parts.chainIn (p .list))
+            (v : Verdict) (ev : v ≡ surveyBeside b ws h vs n aim) where
+          abbrev met : List Range
+          met = list.walkOf (p .list) ws .met
 
-          module _ (b : units.Arena) (eb : b ≡ a) (h : Chain) (eh : h ≡ list-parts.chainIn (p .list))
-              (v : Verdict) (ev : v ≡ surveyBeside b ws h vs n aim) where
-            abbrev met : List Range
-            met = list.walkOf (p .list) ws .met
+          abbrev overlap : Bool
+          overlap = meet met (block.tableOf (p .block) vs)
 
-            abbrev overlap : Bool
-            overlap = meet met (block.tableOf (p .block) vs)
+          found : v ≡ cond (list.sound (p .list) ws && not overlap) (Verdict.Sound (kept-of aim met)) Verdict.Damaged
+          unfolding surveyBeside list.sound
+          found = ev ∙ ap₂ (λ (x : units.Arena) (y : Chain). surveyBeside x ws y vs n aim) (eb ∙ ea) eh
 
-            found : v ≡ cond (list.sound (p .list) ws && not overlap) (Verdict.Sound (kept-of aim met)) Verdict.Damaged
-            unfolding surveyBeside list.sound
-            found = ev ∙ ap₂ (λ (x : units.Arena) (y : Chain). surveyBeside x ws y vs n aim) (eb ∙ ea) eh
+          block-sound : block.sound (p .block) vs ≡ true
+          block-sound = sym is-table ∙ table-sound
 
-            block-sound : block.sound (p .block) vs ≡ true
-            block-sound = sym is-table ∙ table-sound
+          abbrev both : Bool
+          both = list.sound (p .list) ws && not overlap
 
-            abbrev both : Bool
-            both = list.sound (p .list) ws && not overlap
+          as-sound : sound p ws vs ≡ both
+          as-sound = rw block-sound
 
-            as-sound : sound p ws vs ≡ both
-            as-sound = rw block-sound
+          pub check-walk : v ≡ Verdict.Damaged → PairCheck.Damaged ≡ checkOf p ws vs aim
+          unfolding checkOf
+          check-walk d =
+              by both
+              (λ t. let q : v ≡ Verdict.Sound (kept-of aim met) = rw t at found in let z : _≡_ {A = ℕ} 0 1 = cc in absurd (omega arith))
+              (λ t. rw (good, as-sound, t))
 
-            pub check-walk : v ≡ Verdict.Damaged → PairCheck.Damaged ≡ checkOf p ws vs aim
-            unfolding checkOf
-            check-walk d =
-                by both
-                (λ t. let q : v ≡ Verdict.Sound (kept-of aim met) = rw t at found in let z : _≡_ {A = ℕ} 0 1 = cc in absurd (omega arith))
-                (λ t. rw (good, as-sound, t))
+          pub check-good : (s : Spot) → v ≡ Verdict.Sound s → (e : Entry) → e ≡ entryOf aim (pairs vs n) → PairCheck.Good s e ≡ checkOf p ws vs aim
+          unfolding checkOf
+          check-good s d e ee =
+              by both
+              (λ t. let q : v ≡ Verdict.Sound (kept-of aim met) = rw t at found in
+              let w : s ≡ kept-of aim met = cc in rw (good, as-sound, t) (ap₂ PairCheck.Good w ee))
+              (λ t. let q : v ≡ Verdict.Damaged = rw t at found in let z : _≡_ {A = ℕ} 0 1 = cc in absurd (omega arith))
 
-            pub check-good : (s : Spot) → v ≡ Verdict.Sound s → (e : Entry) → e ≡ entryOf aim (pairs vs n) → PairCheck.Good s e ≡ checkOf p ws vs aim
-            unfolding checkOf
-            check-good s d e ee =
-                by both
-                (λ t. let q : v ≡ Verdict.Sound (kept-of aim met) = rw t at found in
-                let w : s ≡ kept-of aim met = cc in rw (good, as-sound, t) (ap₂ PairCheck.Good w ee))
-                (λ t. let q : v ≡ Verdict.Damaged = rw t at found in let z : _≡_ {A = ℕ} 0 1 = cc in absurd (omega arith))
-
-pub ruleset checks = (check-up, check-align, check-arena, check-words, check-table, check-rising, check-walk, check-good)
+pub ruleset checks = (check-align, check-arena, check-words, check-table, check-rising, check-walk, check-good)

@@ -15,7 +15,7 @@ use Rattle.list_words.specs.Laying.{lay}
 use Rattle.list_words.specs.declared.Spot.{Spot}
 use Rattle.list_words.proofs.Laid.{lay-laid}
 use Rattle.list_land.specs.Layout as list
-use Rattle.list_land.specs.Parts.{Sought, reachLimit}
+use Rattle.list_land.specs.Parts.{Looked, reachLimit}
 use Rattle.list_land.specs.declared.ListLand.{ListLand}
 use Rattle.list_land.proofs.LayoutLaws as list-laws
 use Rattle.block_words.specs.Words.{fill}
@@ -27,7 +27,8 @@ use Rattle.block_edits.proofs.Answered.{cut-refused, cut-full, cut-done, cut-wo
 use Rattle.block_land.specs.Layout as block
 use Rattle.block_land.specs.Parts as block-parts
 use Rattle.block_land.specs.declared.BlockLand.{BlockLand}
-use Rattle.block_land.proofs.EditAnswers as edits
+use Rattle.block_land.proofs.EditAnswers as block-edits
+use Rattle.block_land.proofs.Requests as block-requests
 use Rattle.block_land.proofs.LayoutLaws as block-laws
 use Rattle.pair_model.specs.Pairs.{both, delete, pair-step}
 use Rattle.pair.specs.Calls.{called, changed, deleted}
@@ -36,7 +37,7 @@ use Rattle.pair.specs.Editing.{listLess, tableLess, Taking}
 use Rattle.pair.specs.declared.Changed.{Changed}
 use Rattle.pair.specs.declared.Pair.{Pair}
 use Rattle.pair.proofs.Asking.{list-fine, block-fine, readable, order, list-good}
-use Rattle.pair.proofs.Calling.{Hands, list-sought, block-aimed, accepts}
+use Rattle.pair.proofs.Calling.{Hands, list-looked, block-looked, accepts}
 use Rattle.pair.proofs.DeleteLists.{listed-holds, listed-here, listed-takes}
 use Rattle.pair.proofs.ReachedHere.{begins-holds, spot-reach}
 
@@ -74,20 +75,20 @@ module _ (p : Pair) (ws vs : List ℕ) (y : units.Range) (s : Spot) (e : Entry) 
 
     -- IN THE LIST
     module _ (t : Bool) (et : t ≡ begins y (s .here)) where
-      sought : Sought (p .list) ws (reachLimit y) s
-      sought = list-sought p ws vs (reachLimit y) s e (k .checked)
+      looked : Looked (p .list) ws (reachLimit y) s
+      looked = list-looked p ws vs (reachLimit y) s e (k .checked)
 
       good : good-range (list.arenaOf (p .list)) (y .base .0) (y .limit .0) ≡ true
       good = list-good p ws vs y s e k
 
       pub in-list-takes : t ≡ true → Taking (p .list) ws y s
-      in-list-takes f = listed-takes (p .list) ws y s sought good (sym et ∙ f)
+      in-list-takes f = listed-takes (p .list) ws y s looked good (sym et ∙ f)
 
       pub in-list-0 : t ≡ true → (h : ListLand) (ws' : List ℕ) → (h ≡ list.closed (p .list) (listLess (p .list) ws y)) × (ws' ≡ lay (list.base (p .list)) (listLess (p .list) ws y) ws) →
           Deletes p ws vs y (record { pair = record { list = h; block = p .block }; answer = 0; range = s .here }) ws' vs
       in-list-0 f h ws' g =
-          does (holder b l rs) (listLess (p .list) ws y) qs (rw (k .good, listed-holds (p .list) ws y s sought good (sym et ∙ f)))
-          (s .here) (listed-here (p .list) ws y s sought good (sym et ∙ f)) h (g .0) (p .block) (sym (block-laws.handle-back (p .block) vs (block-fine p ws vs y s e k)))
+          does (holder b l rs) (listLess (p .list) ws y) qs (rw (k .good, listed-holds (p .list) ws y s looked good (sym et ∙ f)))
+          (s .here) (listed-here (p .list) ws y s looked good (sym et ∙ f)) h (g .0) (p .block) (sym (block-laws.handle-back (p .block) vs (block-fine p ws vs y s e k)))
           ws' vs (g .1) (sym (block-laws.words-back (p .block) vs (block-fine p ws vs y s e k)))
 
       pub not-in-list : t ≡ false → Unlisted p ws vs y s e
@@ -102,10 +103,10 @@ module _ (p : Pair) (ws vs : List ℕ) (y : units.Range) (s : Spot) (e : Entry) 
   -- IN THE TABLE
   module _ (u : Unlisted p ws vs y s e) where
     pub cut-sorted : Sorted vs (p .block .ranges)
-    cut-sorted = edits.sorted (p .block) vs (readable p ws vs y s e (u .asked))
+    cut-sorted = block-requests.sorted (p .block) vs (readable p ws vs y s e (u .asked))
 
     pub cut-spot : places.Spot vs (p .block .ranges) (y .limit .0) (e .number)
-    cut-spot = edits.aimed-spot (p .block) vs (y .limit) e (block-aimed p ws vs (reachLimit y) s e (u .asked .checked))
+    cut-spot = block-requests.looked-spot (p .block) vs (y .limit) e (block-looked p ws vs (reachLimit y) s e (u .asked .checked))
 
     module _ (v : Edited) (vs' : List ℕ) (d : (v ≡ cutOf vs (p .block .ranges) y) × (vs' ≡ cutWords vs (p .block .ranges) y)) where
       pub none-holds : v ≡ Edited.Refused → Nowhere p ws vs' y
@@ -131,7 +132,7 @@ module _ (p : Pair) (ws vs : List ℕ) (y : units.Range) (s : Spot) (e : Entry) 
 
       module _ (x : units.Range) (m : ℕ) (f : v ≡ Edited.Done x m) (z : Size) (ez : z .0 ≡ y .limit .0 - y .base .0) where
         pub cut-room : z .0 ≤ p .block .bytes .0
-        cut-room = edits.delete-room (p .block) vs y (readable p ws vs y s e (u .asked)) (u .asked .good) v vs' d x m f z ez
+        cut-room = block-edits.delete-room (p .block) vs y e (block-looked p ws vs (reachLimit y) s e (u .asked .checked)) (u .asked .good) v vs' d x m f z ez
 
         pub cut-0 : (t : Size) → t .0 ≡ p .block .bytes .0 - z .0 → (h : BlockLand) → h ≡ block-parts.closedWith (p .block) m t →
             Deletes p ws vs y (record { pair = record { list = p .list; block = h }; answer = 0; range = x }) ws vs'
@@ -145,5 +146,5 @@ module _ (p : Pair) (ws vs : List ℕ) (y : units.Range) (s : Spot) (e : Entry) 
             let bytes = bf .bytes in
             does (u .asked) (holder b l qs) rs (tableLess (p .block) vs y) (rw (u .asked .good, u .unlisted, c, o .fits))
             x (o .range) (p .list) (sym (list-laws.handle-back (p .list) ws rs lf refl))
-            h (eh ∙ edits.closes (p .block) (tableLess (p .block) vs y) m t (o .count) (omega arith))
+            h (eh ∙ block-requests.closes (p .block) (tableLess (p .block) vs y) m t (o .count) (omega arith))
             ws vs' (sym (lay-laid (list.base (p .list)) rs ws (lf .laid))) (d .1 ∙ cut-words vs (p .block .ranges) y (Edited.Done x m) q)

@@ -17,15 +17,15 @@ use Rattle.model.proofs.Requests.{range-rules}
 use Rattle.model.proofs.Surrounding.{held}
 use Rattle.list_words.specs.declared.Spot.{Spot}
 use Rattle.list_land.specs.Layout as list
-use Rattle.list_land.specs.Parts.{arenaIn, chainIn, Sought, reachLimit}
+use Rattle.list_land.specs.Parts.{arenaIn, chainIn, Looked, reachLimit}
 use Rattle.list_land.specs.declared.ListLand.{ListLand}
-use Rattle.list_land.proofs.Requests.{sought-fine, sought-held}
+use Rattle.list_land.proofs.Requests.{looked-fine, looked-held}
 use Rattle.list_land.proofs.Sound.{Fine}
 use Rattle.pair.specs.Deletes.{begins}
 use Rattle.pair.specs.Editing.{Taking}
 use Rattle.pair.proofs.ReachedHere.{begins-holds, reach-holder, spot-reach}
 
-module _ (h : ListLand) (ws : List ℕ) (y : units.Range) (s : Spot) (k : Sought h ws (reachLimit y) s)
+module _ (h : ListLand) (ws : List ℕ) (y : units.Range) (s : Spot) (k : Looked h ws (reachLimit y) s)
     (good : good-range (list.arenaOf h) (y .base .0) (y .limit .0) ≡ true) (at-spot : begins y (s .here) ≡ true) where
   abbrev b : ℕ
   b = y .base .0
@@ -37,7 +37,7 @@ module _ (h : ListLand) (ws : List ℕ) (y : units.Range) (s : Spot) (k : Sought
   met = list.walkOf h ws .met
 
   fit : Fine h ws
-  fit = sought-fine h ws (reachLimit y) s k
+  fit = looked-fine h ws (reachLimit y) s k
 
   rules : RangeRules (list.arenaOf h) b l
   rules = range-rules (list.arenaOf h) b l good
@@ -55,7 +55,7 @@ module _ (h : ListLand) (ws : List ℕ) (y : units.Range) (s : Spot) (k : Sought
   pub listed-takes : Taking h ws y s
   listed-takes = record {
     aim = reachLimit y;
-    held = sought-held h ws (reachLimit y) s k (arenaIn h) refl (chainIn h) refl;
+    held = looked-held h ws (reachLimit y) s k (arenaIn h) refl (chainIn h) refl;
     low = leb-true (s .here .base .0) b (and-right (not (eqb (s .here .base .0) 0)) (leb (s .here .base .0) b) at-spot);
     proper = rules .order;
     high = rw listed-here (held b l met listed-holds .high);

@@ -17,7 +17,7 @@ use Rattle.list_land.specs.Parts.{arenaIn, chainIn, reachLimit}
 use Rattle.block_words.specs.Words.{pairs}
 use Rattle.block_words.specs.declared.Entry.{Entry}
 use Rattle.block_land.specs.Layout as block
-use Rattle.block_land.proofs.EditAnswers.{few-bytes}
+use Rattle.block_land.proofs.Requests.{few-bytes}
 use Rattle.flush.proofs.FlushAnswers.{going}
 use Rattle.pair_model.specs.Pairs.{both, delete, inside, all-inside}
 use Rattle.pair_words.specs.Shares as shares

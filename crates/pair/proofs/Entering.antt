@@ -24,7 +24,7 @@ use Rattle.block_edits.proofs.Answered.{put-refused, put-full, put-done, put-wo
 use Rattle.block_land.specs.Layout as block
 use Rattle.block_land.specs.Parts as block-parts
 use Rattle.block_land.specs.declared.BlockLand.{BlockLand}
-use Rattle.block_land.proofs.EditAnswers.{whole, sorted, few-bytes}
+use Rattle.block_land.proofs.Requests.{whole, sorted, few-bytes}
 use Rattle.flush.specs.Flush.{Done, checkOf, flushed}
 use Rattle.flush.specs.declared.FlushCheck.{FlushCheck}
 use Rattle.flush.specs.declared.Flushed.{Flushed}
@@ -57,7 +57,7 @@ module _ (p : Pair) (ws : List ℕ) (y : units.Range) (s : list-spot.Spot) (k : 
     pub enter-giving : (t : list-spot.Spot) → t ≡ kept-of (Aim.Reach (y .base)) (walkOf a ws (p .list .head .0) .met) → Giving (p .list) ws y t
     enter-giving t et =
         let u : t ≡ kept-of (Aim.Reach (y .base)) (list.walkOf (p .list) ws .met) = rw ea at et in
-        record { sought = record { good = k .good; whole = k .whole; kept = u }; good = k .asked; apart = k .clear }
+        record { looked = record { good = k .good; whole = k .whole; kept = u }; good = k .asked; apart = k .clear }
 
   abbrev listed : Joined → Entered
   listed g = record { counts = record { chain = g .chain; ranges = p .block .ranges; bytes = p .block .bytes }; range = g .range }

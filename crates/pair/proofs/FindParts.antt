@@ -1,9 +1,7 @@
 -- The ways out of a find in one land of a pair: the range as it stands, and a part of it taken out. Assumes nothing.
-use Prim.Native.Nat.{ℕ, _-_}
+use Prim.Native.Nat.{ℕ}
 use mathlib.Core.List.{List, [], _∷_}
-use mathlib.Core.Logic.{inl, inr}
-use mathlib.Core.Path.{_≡_, refl, sym, ap, _∙_}
-use native.Mathlib.Omega.{arith}
+use mathlib.Core.Path.{_≡_, refl, ap, _∙_}
 use types.Run.{OneOf}
 use denote.Enum.Declared.{tagOf}
 use Rattle.units.specs.Rules.{findSize}
@@ -15,35 +13,31 @@ use Rattle.units.specs.declared.rules.Arena.{Arena}
 use Rattle.units.proofs.Mode as mode-type
 use Rattle.model.specs.Marks.{struct, plain}
 use Rattle.model.specs.Steps.{part}
+use Rattle.model.proofs.FindAnswers.{find-kept, find-part, find-0}
 use Rattle.finds.specs.Parts.{Within}
 use Rattle.list_words.specs.Laying.{lay}
 use Rattle.list_words.specs.declared.Spot.{Spot}
-use Rattle.list_edits.specs.Chains.{cutChain}
 use Rattle.list_land.specs.Calls as list-calls
 use Rattle.list_land.specs.Layout as list
 use Rattle.list_land.specs.Parts as list-parts
 use Rattle.list_land.specs.declared.Found as list-found
 use Rattle.list_land.specs.declared.ListLand.{ListLand}
 use Rattle.list_land.proofs.FindAnswers as list-finds
+use Rattle.list_land.proofs.Land.{list-land}
 use Rattle.block_words.specs.Words.{fill}
 use Rattle.block_words.specs.declared.Entry.{Entry}
-use Rattle.block_edits.specs.Edits.{cutOf, cutWords}
-use Rattle.block_edits.specs.declared.Edited.{Edited}
-use Rattle.block_edits.proofs.Answered.{cut-done, cut-words}
-use Rattle.block_edits.proofs.Edited as edited-type
 use Rattle.block_land.specs.Calls as block-calls
 use Rattle.block_land.specs.Layout as block
 use Rattle.block_land.specs.Parts as block-parts
 use Rattle.block_land.specs.declared.BlockLand.{BlockLand}
 use Rattle.block_land.specs.declared.Found as block-found
-use Rattle.block_land.proofs.EditAnswers.{closes, readable}
 use Rattle.block_land.proofs.FindAnswers as block-finds
+use Rattle.block_land.proofs.Land.{block-land}
+use Rattle.block_land.proofs.Requests.{readable}
 use Rattle.pair.specs.Editing.{listLess, tableLess, Taking, Lowering}
 use Rattle.pair.specs.Finding.{ListChosen, BlockChosen, listFound, blockFound}
 use Rattle.pair.specs.declared.Found.{Found}
 use Rattle.pair.specs.declared.Pair.{Pair}
-use Rattle.pair.proofs.FindLands.{block-done}
-use Rattle.pair.proofs.LandEdits.{lower-bytes}
 
 -- IN THE LIST
 module _ (p : Pair) (ws : List ℕ) (w : Which) (n : Size) (mode : Mode) (s : Spot) (k : ListChosen (p .list) ws w n s) where
@@ -57,26 +51,25 @@ module _ (p : Pair) (ws : List ℕ) (w : Which) (n : Size) (mode : Mode) (s : Sp
   as-list v = record { pair = record { list = v .land; block = p .block }; answer = v .answer; range = v .range; old = v .old }
 
   pub list-within : (a : Arena) → a ≡ list-parts.arenaIn (p .list) → (m : Size) → m .0 ≡ findSize (a .align .0) (n .0) → Within m (s .here)
-  list-within a ea m em = list-finds.find-within (p .list) ws w n mode s (k .sought) (k .sized) _ refl (k .there) a ea m em
+  list-within = list-finds.find-within (p .list) ws w n mode s (k .looked) (k .good) _ refl (k .there)
 
   pub list-kept : mode ≡ Mode.None → InList (record { pair = p; answer = 0; range = s .here; old = s .here }) ws
-  list-kept m = let u = list-finds.find-kept (p .list) ws w n mode s (k .sought) (k .sized) _ refl (k .there) m in (ap as-list (u .0), u .1)
+  list-kept m = let u = find-kept list-land (p .list) ws w n mode s (k .looked) (k .good) _ refl (k .there) m in (ap as-list (u .0), u .1)
 
-  module _ (o : OneOf (1 ∷ 2 ∷ 3 ∷ []) (tagOf mode-type.the-type mode)) (a : Arena) (ea : a ≡ list-parts.arenaIn (p .list)) (m : Size)
-      (em : m .0 ≡ findSize (a .align .0) (n .0)) (y : units.Range) (ey : y ≡ struct (part w mode (m .0) (plain (s .here)))) where
+  module _ (a : Arena) (ea : a ≡ list-parts.arenaIn (p .list)) (m : Size) (em : m .0 ≡ findSize (a .align .0) (n .0))
+      (o : OneOf (1 ∷ 2 ∷ 3 ∷ []) (tagOf mode-type.the-type mode)) (y : units.Range) (ey : y ≡ struct (part w mode (m .0) (plain (s .here)))) where
     sized : m .0 ≡ findSize (p .list .align .0) (n .0)
     sized = em ∙ ap (λ (x : Arena). findSize (x .align .0) (n .0)) ea
 
     pub list-takes : Taking (p .list) ws y s
     list-takes =
-        list-finds.find-holding (p .list) ws w n mode s (k .sought) (k .sized) _ refl (k .there) o
-        (list-parts.arenaIn (p .list)) refl m sized y ey (list-parts.chainIn (p .list)) refl
+        list-finds.find-holding (p .list) ws w n mode s (k .looked) (k .good) _ refl (k .there)
+        (list-parts.arenaIn (p .list)) refl m sized o y ey (list-parts.chainIn (p .list)) refl
 
     pub list-0 : (z : ListLand) (ws' : List ℕ) → (z ≡ list.closed (p .list) (listLess (p .list) ws y)) × (ws' ≡ lay (list.base (p .list)) (listLess (p .list) ws y) ws) →
         InList (record { pair = record { list = z; block = p .block }; answer = 0; range = y; old = s .here }) ws'
     list-0 z ws' q =
-        let u = list-finds.find-0 (p .list) ws w n mode s (k .sought) (k .sized) _ refl (k .there) o
-        (list-parts.arenaIn (p .list)) refl m sized y ey (list-parts.chainIn (p .list)) refl (cutChain (list.walkOf (p .list) ws .met) y) ws' (refl, q .1) z (q .0) in
+        let u = find-0 list-land (p .list) ws w n mode s (k .looked) (k .good) _ refl (k .there) a ea m em o y ey z (q .0) ws' (q .1) in
         (ap as-list (u .0), u .1)
 
 -- IN THE BLOCK LAND
@@ -91,45 +84,23 @@ module _ (p : Pair) (vs : List ℕ) (w : Which) (n : Size) (mode : Mode) (e : En
   as-block v = record { pair = record { list = p .list; block = v .land }; answer = v .answer; range = v .range; old = v .old }
 
   pub block-within : (a : Arena) → a ≡ block-parts.arenaIn (p .block) → (m : Size) → m .0 ≡ findSize (a .align .0) (n .0) → Within m (e .here)
-  block-within a ea m em = block-finds.find-within (p .block) vs w n mode e (k .aimed) (k .sized) _ refl (k .there) a ea m em
+  block-within = block-finds.find-within (p .block) vs w n mode e (k .looked) (k .good) _ refl (k .there)
 
   pub block-kept : mode ≡ Mode.None → InBlock (record { pair = p; answer = 0; range = e .here; old = e .here }) vs
-  block-kept m = let u = block-finds.find-kept (p .block) vs w n mode e (k .aimed) (k .sized) _ refl (k .there) m in (ap as-block (u .0), u .1)
+  block-kept m = let u = find-kept block-land (p .block) vs w n mode e (k .looked) (k .good) _ refl (k .there) m in (ap as-block (u .0), u .1)
 
-  module _ (o : OneOf (1 ∷ 2 ∷ 3 ∷ []) (tagOf mode-type.the-type mode)) (a : Arena) (ea : a ≡ block-parts.arenaIn (p .block)) (m : Size)
-      (em : m .0 ≡ findSize (a .align .0) (n .0)) (y : units.Range) (ey : y ≡ struct (part w mode (m .0) (plain (e .here)))) where
-    -- what is left always has room
-    never : {P : Type 0} (d : Edited) → cutOf vs (p .block .ranges) y ≡ d → OneOf (0 ∷ 1 ∷ []) (tagOf edited-type.the-type d) → P
-    never d f z =
-        let u = block-finds.find-3 (p .block) vs w n mode e (k .aimed) (k .sized) _ refl (k .there) o a ea m em y ey
-        d (cutWords vs (p .block .ranges) y) (sym f, refl) z (block-calls.foundNone (p .block) 3) refl in
-        let c : _≡_ {A = ℕ} 3 0 = ap (λ (v : block-found.Found). v .answer) (u .0) ∙ ap (λ (v : block-calls.LandDone). v .out .answer) (block-done (p .block) vs w n mode e k) in
-        absurd (omega arith)
-
+  module _ (a : Arena) (ea : a ≡ block-parts.arenaIn (p .block)) (m : Size) (em : m .0 ≡ findSize (a .align .0) (n .0))
+      (o : OneOf (1 ∷ 2 ∷ 3 ∷ []) (tagOf mode-type.the-type mode)) (y : units.Range) (ey : y ≡ struct (part w mode (m .0) (plain (e .here)))) where
     pub block-lowers : Lowering (p .block) vs (e .number) y
-    block-lowers = go (cutOf vs (p .block .ranges) y) refl
-      where
-        go : (d : Edited) → cutOf vs (p .block .ranges) y ≡ d → Lowering (p .block) vs (e .number) y
-        go Edited.Refused f = never Edited.Refused f (inl refl)
-        go Edited.Full f = never Edited.Full f (inr refl)
-        go (Edited.Done x c) f = record {
-          readable = readable (p .block) vs (block-parts.findAim (p .block) w n) e (k .aimed);
-          at-pair = block-finds.find-ready (p .block) vs w n mode e (k .aimed) (k .sized) _ refl (k .there) o a ea m em y ey;
-          old = x;
-          count = c;
-          cuts = f;
-        }
+    block-lowers = record {
+      readable = readable (p .block) vs (block-parts.findAim (p .block) w n) e (k .looked);
+      at-pair = block-finds.find-holding (p .block) vs w n mode e (k .looked) (k .good) _ refl (k .there) a ea m em o y ey;
+      held = find-part block-land (p .block) vs w n mode e (k .looked) (k .good) _ refl (k .there) a ea m em o y ey .held;
+      fits = block-finds.find-fits (p .block) vs w n mode e (k .looked) (k .good) _ refl (k .there) a ea m em o y ey;
+    }
 
     pub block-0 : (z : BlockLand) (vs' : List ℕ) → (z ≡ block.closed (p .block) (tableLess (p .block) vs y)) × (vs' ≡ fill (tableLess (p .block) vs y) vs) →
         InBlock (record { pair = record { list = p .list; block = z }; answer = 0; range = y; old = e .here }) vs'
     block-0 z vs' q =
-        let v = block-lowers in
-        let cut = cut-done vs (p .block .ranges) y (v .old) (v .count) (v .cuts) in
-        let words = cut-words vs (p .block .ranges) y (Edited.Done (v .old) (v .count)) (v .cuts) in
-        let left = lower-bytes (p .block) vs (e .number) y v in
-        let t : Size = record { 0 = y .limit .0 - y .base .0 } in
-        let b : Size = record { 0 = p .block .bytes .0 - (y .limit .0 - y .base .0) } in
-        let u = block-finds.find-0 (p .block) vs w n mode e (k .aimed) (k .sized) _ refl (k .there) o a ea m em y ey
-        (Edited.Done (v .old) (v .count)) vs' (sym (v .cuts), q .1 ∙ sym words) (v .old) (v .count) refl t refl b refl
-        z (q .0 ∙ sym (closes (p .block) (tableLess (p .block) vs y) (v .count) b (cut .count) (omega arith))) in
+        let u = find-0 block-land (p .block) vs w n mode e (k .looked) (k .good) _ refl (k .there) a ea m em o y ey z (q .0) vs' (q .1) in
         (ap as-block (u .0), u .1)

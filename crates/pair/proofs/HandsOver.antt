@@ -6,7 +6,7 @@ use mathlib.Core.Logic.{inr}
 use mathlib.Core.Path.{_≡_, refl, sym, ap, subst, _∙_}
 use native.Mathlib.Omega.{arith}
 use lib.ListN.{length}
-use borrow.Author.Tests.{ne-eqb, le-leb}
+use borrow.Author.Tests.{ne-eqb}
 use Rattle.units.specs.Aims.{isNone}
 use Rattle.units.specs.Words.{rangeOf}
 use Rattle.units.specs.declared.Range as units
@@ -28,13 +28,11 @@ use Rattle.list_land.specs.Layout as list
 use Rattle.list_land.specs.Parts.{reachLimit}
 use Rattle.block_words.specs.Words.{capacity, fill}
 use Rattle.block_words.specs.declared.Entry.{Entry}
-use Rattle.block_edits.specs.Edits.{cutOf}
 use Rattle.block_edits.specs.Places.{Holding}
-use Rattle.block_edits.specs.declared.Edited.{Edited}
 use Rattle.block_edits.proofs.Entering.{Numbered, kept-numbered}
 use Rattle.block_land.specs.Layout as block
 use Rattle.block_land.specs.declared.BlockLand.{BlockLand}
-use Rattle.block_land.proofs.EditAnswers.{sorted}
+use Rattle.block_land.proofs.Requests.{sorted}
 use Rattle.block_land.proofs.Sound.{Fine}
 use Rattle.flush.proofs.FlushKeeps.{checked, list-canon, block-canon}
 use Rattle.pair_model.specs.Pairs.{both}
@@ -46,7 +44,7 @@ use Rattle.pair.specs.Deletes.{Asked, Spilling}
 use Rattle.pair.specs.Editing.{listMore, tableLess, given, Giving, Lowering}
 use Rattle.pair.specs.declared.edits.Given.{Given}
 use Rattle.pair.specs.declared.Pair.{Pair}
-use Rattle.pair.proofs.Calling.{apart, list-sought, flush-checked}
+use Rattle.pair.proofs.Calling.{apart, list-looked, flush-checked}
 use Rattle.pair.proofs.Checking.{same-up}
 use Rattle.pair.proofs.Asking.{block-fine, readable, order}
 use Rattle.pair.proofs.DeleteAnswers.{Deletes, does}
@@ -146,7 +144,7 @@ module _ (p : Pair) (ws vs : List ℕ) (y : units.Range) (s : Spot) (e : Entry) 
     pub over-giving : Giving (p .list) ws u s
     over-giving =
         subst (λ (x : units.Range). Giving (p .list) ws x s) (sym is-upper)
-        (record { sought = list-sought p ws vs (reachLimit y) s e (asked .checked); good = upper-good; apart = upper-apart })
+        (record { looked = list-looked p ws vs (reachLimit y) s e (asked .checked); good = upper-good; apart = upper-apart })
 
     module _ (m : units.Range) (em : m ≡ rangeOf (y .base .0) (e .here .limit .0)) where
       is-above : m ≡ rangeOf b (q .limit)
@@ -173,19 +171,14 @@ module _ (p : Pair) (ws vs : List ℕ) (y : units.Range) (s : Spot) (e : Entry) 
             high = omega arith;
           }
 
-      cuts : cutOf vs (p .block .ranges) (rangeOf b (q .limit)) ≡ Edited.Done (struct (holder b (q .limit) qs)) (length (delete-from b (q .limit) qs))
-      unfolding cutOf
-      cuts = rw (holds-rest, le-leb (length (delete-from b (q .limit) qs)) (capacity vs) room)
-
       pub over-lowering : Lowering (p .block) vs (e .number) m
       over-lowering =
           subst (λ (x : units.Range). Lowering (p .block) vs (e .number) x) (sym is-above)
           (record {
             readable = readable p ws vs y s e asked;
             at-pair = at-pair;
-            old = struct (holder b (q .limit) qs);
-            count = length (delete-from b (q .limit) qs);
-            cuts = cuts;
+            held = holds-rest;
+            fits = room;
           })
 
       pub over-0 : (h : Given) (ws' : List ℕ) → (h ≡ given (p .list) ws u) × (ws' ≡ lay (list.base (p .list)) (listMore (p .list) ws u) ws) →

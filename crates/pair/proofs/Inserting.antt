@@ -18,14 +18,14 @@ use Rattle.block_words.specs.Surveys as places
 use Rattle.block_words.specs.declared.Entry.{Entry}
 use Rattle.block_edits.specs.Edits.{Sorted}
 use Rattle.block_land.specs.Layout as block
-use Rattle.block_land.proofs.EditAnswers as edits
+use Rattle.block_land.proofs.Requests as block-requests
 use Rattle.pair_model.specs.Pairs.{insert}
 use Rattle.pair.specs.Calls.{called, changed, inserted, refusedBy}
 use Rattle.pair.specs.Inserts.{takenIn, Wanted, Bare}
 use Rattle.pair.specs.declared.Changed.{Changed}
 use Rattle.pair.specs.declared.Pair.{Pair}
 use Rattle.pair.proofs.Asking.{readable, order, list-good}
-use Rattle.pair.proofs.Calling.{Hands, list-sought, block-aimed, refuses, refuse}
+use Rattle.pair.proofs.Calling.{Hands, list-looked, block-looked, refuses, refuse}
 
 pub is-insert : (p : Pair) (ws vs : List ℕ) (y : units.Range) → inserted p ws vs y ≡ called (insert (y .base .0) (y .limit .0)) p ws vs
 unfolding inserted
@@ -52,12 +52,12 @@ module _ (p : Pair) (ws vs : List ℕ) (y : units.Range) (s : Spot) where
   module _ (e : Entry) (k : Wanted p ws vs y s e) where
     pub table-asks : Sorted vs (p .block .ranges) × ((y .base .0 < y .limit .0) × places.Spot vs (p .block .ranges) (y .base .0) (e .number))
     table-asks =
-        let m = block-aimed p ws vs (reachBase y) s e (k .checked) in
-        (edits.sorted (p .block) vs (readable p ws vs y s e k), (order p ws vs y s e k, edits.aimed-spot (p .block) vs (y .base) e m))
+        let m = block-looked p ws vs (reachBase y) s e (k .checked) in
+        (block-requests.sorted (p .block) vs (readable p ws vs y s e k), (order p ws vs y s e k, block-requests.looked-spot (p .block) vs (y .base) e m))
 
     module _ (a : units-arena.Arena) (ea : a ≡ list-parts.arenaIn (p .list)) (c : Chain) (ec : c ≡ list-parts.chainIn (p .list)) where
       pub list-asks : Held a ws c (reachBase y) s × (mayAsk a y ≡ true)
-      list-asks = (list-requests.sought-held (p .list) ws (reachBase y) s (list-sought p ws vs (reachBase y) s e (k .checked)) a ea c ec, rw ea (list-good p ws vs y s e k))
+      list-asks = (list-requests.looked-held (p .list) ws (reachBase y) s (list-looked p ws vs (reachBase y) s e (k .checked)) a ea c ec, rw ea (list-good p ws vs y s e k))
 
       module _ (t : Bool) (et : t ≡ overlaps (y .base .0) (y .limit .0) (metOf a ws c)) where
         in-list : t ≡ overlaps b l rs

@@ -1,19 +1,16 @@
 -- The edits of one land of a pair: the ways out of `put`, `give`, `take` and `lower`. Assumes nothing.
 use Prim.Native.Nat.{ℕ, _+_, _-_, _≤_}
 use mathlib.Core.Bool.{Bool, true}
-use mathlib.Core.List.{List, [], _∷_}
-use mathlib.Core.Logic.{⊎-elim}
+use mathlib.Core.List.{List}
 use mathlib.Core.Path.{_≡_, sym, ap, subst, _∙_}
 use native.Mathlib.Omega.{arith}
-use types.Run.{OneOf}
-use denote.Enum.Declared.{tagOf}
-use borrow.Author.Tests.{not-false}
+use lib.ListN.{length}
 use Rattle.units.specs.declared.Range as units
 use Rattle.units.specs.declared.Size.{Size}
 use Rattle.units.specs.declared.rules.Arena.{Arena}
 use Rattle.units.proofs.Tests.{clash}
 use Rattle.model.specs.Marks.{Range}
-use Rattle.model.specs.Lists.{total, overlaps, holds, holder}
+use Rattle.model.specs.Lists.{total, overlaps, holder}
 use Rattle.model.proofs.Totals.{total-delete}
 use Rattle.list_words.specs.Laying.{lay}
 use Rattle.list_words.specs.declared.Chain.{Chain}
@@ -27,14 +24,10 @@ use Rattle.list_land.specs.Parts.{arenaIn, chainIn, closedWith, reachBase}
 use Rattle.list_land.specs.declared.ListLand.{ListLand}
 use Rattle.list_land.proofs.Requests as list-requests
 use Rattle.block_words.specs.Words.{fill}
-use Rattle.block_edits.specs.Edits.{cutOf, cutWords}
-use Rattle.block_edits.specs.declared.Edited.{Edited}
-use Rattle.block_edits.proofs.Answered.{cut-done, cut-words}
-use Rattle.block_edits.proofs.Edited as edited-type
 use Rattle.block_land.specs.Layout as block
 use Rattle.block_land.specs.Parts as block-parts
 use Rattle.block_land.specs.declared.BlockLand.{BlockLand}
-use Rattle.block_land.proofs.EditAnswers.{closes, whole}
+use Rattle.block_land.proofs.Requests.{closes, whole}
 use Rattle.pair.specs.Editing.{listLess, listMore, tableLess, chained, joined, given, Giving, Taking, Lowering}
 use Rattle.pair.specs.declared.edits.Joined.{Joined}
 
@@ -45,7 +38,7 @@ module _ (h : ListLand) (ws : List ℕ) (y : units.Range) (s : Spot) where
   -- A RANGE PUT INTO THE LIST
   module _ (k : Giving h ws y s) (a : Arena) (ea : a ≡ arenaIn h) (c : Chain) (ec : c ≡ chainIn h) where
     pub put-asks : Held a ws c (reachBase y) s × (mayAsk a y ≡ true)
-    put-asks = (list-requests.sought-held h ws (reachBase y) s (k .sought) a ea c ec, rw ea (k .good))
+    put-asks = (list-requests.looked-held h ws (reachBase y) s (k .looked) a ea c ec, rw ea (k .good))
 
     module _ (v : list-edited.Edited) (ws' : List ℕ) (e : (v ≡ putOf (metOf a ws c) y) × (ws' ≡ putWords (metOf a ws c) y (a .base .0) ws)) where
       abbrev bad : Bool
@@ -108,20 +101,12 @@ module _ (k : BlockLand) (vs : List ℕ) (i : ℕ) (y : units.Range) (w : Loweri
   pub lower-bytes : total (tableLess k vs y) + (y .limit .0 - y .base .0) ≡ k .bytes .0
   lower-bytes =
       let f = whole k vs (w .readable) in
-      let held = not-false (holds (y .base .0) (y .limit .0) (block.tableOf k vs)) (cut-done vs (k .ranges) y (w .old) (w .count) (w .cuts) .good) in
-      total-delete (y .base .0) (y .limit .0) (block.base k) (block.limit k) (block.tableOf k vs) (w .at-pair .proper) (f .apart) held ∙ sym (f .bytes)
+      total-delete (y .base .0) (y .limit .0) (block.base k) (block.limit k) (block.tableOf k vs) (w .at-pair .proper) (f .apart) (w .held) ∙ sym (f .bytes)
 
   pub lower-room : (s : Size) → s .0 ≡ y .limit .0 - y .base .0 → s .0 ≤ k .bytes .0
   lower-room s es = let u = lower-bytes in omega arith
 
-  module _ (p : Edited) (vs' : List ℕ) (e : (p ≡ cutOf vs (k .ranges) y) × (vs' ≡ cutWords vs (k .ranges) y)) where
-    pub lower-never : {P : Type 0} → OneOf (0 ∷ 1 ∷ []) (tagOf edited-type.the-type p) → P
-    lower-never o = absurd (⊎-elim (λ x. omega arith) (λ x. omega arith) (rw (e .0 ∙ w .cuts) at o))
-
-    pub lower-done : (x : units.Range) (m : ℕ) → p ≡ Edited.Done x m → (s : Size) → s .0 ≡ y .limit .0 - y .base .0 → (t : Size) → t .0 ≡ k .bytes .0 - s .0 →
-        (z : BlockLand) → z ≡ block-parts.closedWith k m t → (z ≡ block.closed k (tableLess k vs y)) × (vs' ≡ fill (tableLess k vs y) vs)
-    lower-done x m f s es t et z ez =
-        let q = sym (e .0) ∙ f in
-        let o = cut-done vs (k .ranges) y x m q in
-        let u = lower-bytes in
-        (ez ∙ closes k (tableLess k vs y) m t (o .count) (omega arith), e .1 ∙ cut-words vs (k .ranges) y (Edited.Done x m) q)
+  pub lower-done : (m : ℕ) (vs' : List ℕ) → (m ≡ length (tableLess k vs y)) × (vs' ≡ fill (tableLess k vs y) vs) →
+      (s : Size) → s .0 ≡ y .limit .0 - y .base .0 → (t : Size) → t .0 ≡ k .bytes .0 - s .0 →
+      (z : BlockLand) → z ≡ block-parts.closedWith k m t → (z ≡ block.closed k (tableLess k vs y)) × (vs' ≡ fill (tableLess k vs y) vs)
+  lower-done m vs' e s es t et z ez = let u = lower-bytes in (ez ∙ closes k (tableLess k vs y) m t (e .0) (omega arith), e .1)

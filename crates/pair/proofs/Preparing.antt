@@ -20,7 +20,7 @@ use Rattle.block_words.specs.Words.{fill}
 use Rattle.block_words.specs.declared.Entry.{Entry}
 use Rattle.block_land.specs.Layout as block
 use Rattle.block_land.specs.declared.BlockLand.{BlockLand}
-use Rattle.block_land.proofs.EditAnswers.{sorted}
+use Rattle.block_land.proofs.Requests.{sorted}
 use Rattle.block_land.proofs.LayoutLaws.{words-back, handle-back}
 use Rattle.pair.specs.Inserts.{flushOf, flushedCounts, flushedNodes, Placed}
 use Rattle.pair.specs.declared.Pair.{Pair}

@@ -1,21 +1,21 @@
 -- Contracts of the edits of one land of a pair. Assumes nothing.
-use Prim.Native.Nat.{ℕ}
+use Prim.Native.Nat.{ℕ, _≤_}
 use mathlib.Core.Bool.{true, false}
 use mathlib.Core.List.{List}
 use mathlib.Core.Path.{_≡_}
+use lib.ListN.{length}
 use Rattle.units.specs.declared.Range as units
 use Rattle.model.specs.Marks.{Range, struct}
-use Rattle.model.specs.Lists.{overlaps, holder, insert-in, delete-from}
+use Rattle.model.specs.Lists.{overlaps, holds, holder, insert-in, delete-from}
 use Rattle.model.specs.Calls.{good-range}
 use Rattle.list_words.specs.declared.Chain.{Chain}
 use Rattle.list_words.specs.declared.Spot.{Spot}
 use Rattle.list_edits.specs.Chains as chains
 use Rattle.list_land.specs.Layout as list
-use Rattle.list_land.specs.Parts.{arenaIn, chainIn, closedWith, Sought, reachBase}
+use Rattle.list_land.specs.Parts.{arenaIn, chainIn, closedWith, Looked, reachBase}
 use Rattle.list_land.specs.declared.ListLand.{ListLand}
-use Rattle.block_edits.specs.Edits.{cutOf}
+use Rattle.block_words.specs.Words.{capacity}
 use Rattle.block_edits.specs.Places.{Holding}
-use Rattle.block_edits.specs.declared.Edited.{Edited}
 use Rattle.block_land.specs.Layout as block
 use Rattle.block_land.specs.Parts.{Readable}
 use Rattle.block_land.specs.declared.BlockLand.{BlockLand}
@@ -45,7 +45,7 @@ given h ws y = record { list = list.closed h (listMore h ws y); range = joined h
 
 -- A good range that a sound list has no byte of, and the spot of its base.
 pub record Giving (h : ListLand) (ws : List ℕ) (y : units.Range) (s : Spot) : Type 0 where
-  pub sought : Sought h ws (reachBase y) s
+  pub looked : Looked h ws (reachBase y) s
   pub good : good-range (list.arenaOf h) (y .base .0) (y .limit .0) ≡ true
   pub apart : overlaps (y .base .0) (y .limit .0) (list.walkOf h ws .met) ≡ false
 
@@ -57,6 +57,5 @@ Taking h ws y s = chains.Holding (arenaIn h) ws (chainIn h) s y
 pub record Lowering (k : BlockLand) (vs : List ℕ) (i : ℕ) (y : units.Range) : Type 0 where
   pub readable : Readable k vs
   pub at-pair : Holding vs (k .ranges) i y
-  pub old : units.Range
-  pub count : ℕ
-  pub cuts : cutOf vs (k .ranges) y ≡ Edited.Done old count
+  pub held : holds (y .base .0) (y .limit .0) (block.tableOf k vs) ≡ true
+  pub fits : length (tableLess k vs y) ≤ capacity vs

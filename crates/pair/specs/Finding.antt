@@ -1,8 +1,7 @@
 -- Contracts of the inner functions of a find of a pair. Assumes nothing.
 use Prim.Native.Nat.{ℕ, _≤_}
-use mathlib.Core.Bool.{true, false, cond}
+use mathlib.Core.Bool.{cond}
 use mathlib.Core.List.{List}
-use mathlib.Core.Path.{_≡_}
 use lib.Dec.{eqb}
 use Rattle.units.specs.Rules.{findSize}
 use Rattle.units.specs.declared.Range.{Range}
@@ -10,12 +9,15 @@ use Rattle.units.specs.declared.Size.{Size}
 use Rattle.units.specs.declared.Which.{Which}
 use Rattle.units.specs.declared.aims.Aim.{Aim}
 use Rattle.model.specs.Calls.{good-size}
+use Rattle.model.specs.Looks.{Chose}
 use Rattle.model.specs.Marks.{plain, struct}
+use Rattle.list_words.specs.Surveys.{kept-of}
 use Rattle.list_words.specs.declared.Spot.{Spot}
 use Rattle.list_land.specs.Calls as list-calls
 use Rattle.list_land.specs.Layout as list
 use Rattle.list_land.specs.Parts as list-parts
 use Rattle.list_land.specs.declared.ListLand.{ListLand}
+use Rattle.block_words.specs.Surveys.{entryOf}
 use Rattle.block_words.specs.declared.Entry.{Entry}
 use Rattle.block_land.specs.Calls as block-calls
 use Rattle.block_land.specs.Layout as block
@@ -42,17 +44,14 @@ sideOf w r q =
     (cond (eqb (q .base .0) 0) Side.Neither Side.Block)
     (cond (eqb (q .base .0) 0) Side.List (cond (list-first w (plain r) (plain q)) Side.List Side.Block))
 
--- A spot of a sound list that a find of a good size has chosen.
-pub record ListChosen (h : ListLand) (ws : List ℕ) (w : Which) (n : Size) (s : Spot) : Type 0 where
-  pub sought : list-parts.Sought h ws (list-parts.findAim h w n) s
-  pub sized : good-size (list.arenaOf h) w (n .0) ≡ true
-  pub there : eqb (s .here .base .0) 0 ≡ false
+-- A spot of a sound list, and an entry of a sound table, that a find of a good size has chosen.
+abbrev pub ListChosen : ListLand → List ℕ → Which → Size → Spot → Type 0
+ListChosen h ws w n s =
+    Chose (list.setUp h ws) (list.sound h ws) (good-size (list.arenaOf h) w (n .0)) (kept-of (list-parts.findAim h w n) (list.walkOf h ws .met)) s (s .here)
 
--- An entry of a sound table that a find of a good size has chosen.
-pub record BlockChosen (k : BlockLand) (vs : List ℕ) (w : Which) (n : Size) (e : Entry) : Type 0 where
-  pub aimed : block-parts.Aimed k vs (block-parts.findAim k w n) e
-  pub sized : good-size (block.arenaOf k vs) w (n .0) ≡ true
-  pub there : eqb (e .here .base .0) 0 ≡ false
+abbrev pub BlockChosen : BlockLand → List ℕ → Which → Size → Entry → Type 0
+BlockChosen k vs w n e =
+    Chose (block.setUp k vs) (block.sound k vs) (good-size (block.arenaOf k vs) w (n .0)) (entryOf (block-parts.findAim k w n) (block.tableOf k vs)) e (e .here)
 
 -- A find of one land as a find of the pair: the other land's handle stays.
 abbrev pub listFound : Pair → list-calls.LandDone → Found

@@ -1,5 +1,4 @@
 // The edits of one land of a pair: a range put into the list, and a part taken out of the list or of the table.
-use block_edits::Edited;
 use block_land::BlockLand;
 use list_land::ListLand;
 use list_words::Chain;
@@ -79,9 +78,7 @@ pub(crate) fn lower(block: BlockLand, nodes: &mut [u64], i: usize, range: Range)
     requires { ⌜ Lowering block (now nodes) i range ⌝ }
     ensures { λ r. ⌜ (r ≡ block-layout.closed block (tableLess block (now (nodes .entry)) range)) × (now (nodes .exit) ≡ fill (tableLess block (now (nodes .entry)) range) (now (nodes .entry))) ⌝ }
 {
-    let Edited::Done(_, count) = block_edits::cut::cut_at(nodes, block.ranges, i, range) else {
-        return block;
-    };
+    let count = block_edits::cut::cut_at(nodes, block.ranges, i, range);
     let bytes = block.bytes.minus(range.size());
     block.close(count, bytes)
 }

@@ -19,6 +19,7 @@ use units::Aim;
 use units::Range;
 use units::SetUp;
 use units::Soundness;
+ghost use mathlib.Core.Bool.{true};
 ghost use mathlib.Core.Path.{_≡_};
 ghost use Rattle.pair.specs.Calls.{refusedBy, foundNone};
 ghost use Rattle.units.specs.Rules.{setUpOf};
@@ -79,7 +80,7 @@ fn none_found(pair: Pair, answer: u64) -> Found
 
 impl Pair {
     // Whether the arenas of both lands are one, its set-up is good, and node space is not too long.
-    fn set_up(self, words: &[u64], nodes: &[u64]) -> SetUp
+    pub(crate) fn set_up(self, words: &[u64], nodes: &[u64]) -> SetUp
         ensures { λ r. ⌜ r ≡ setUpOf (setUp self (now (words .entry)) (now (nodes .entry))) ⌝ }
     {
         let list = self.list;
@@ -92,13 +93,12 @@ impl Pair {
         block_land::lent(nodes)
     }
 
-    // The checks of a call: the set-up, a sound table, then in one walk a sound list with no byte that is in the table too.
-    pub fn check(self, words: &[u64], nodes: &[u64], aim: Aim) -> PairCheck
+    // What a call whose set-up is good finds: a sound table, then in one walk a sound list with no byte that is in the table
+    // too, and what the aim keeps of both.
+    pub(crate) fn look(self, words: &[u64], nodes: &[u64], aim: Aim) -> PairCheck
+        requires { ⌜ setUp self (now words) (now nodes) ≡ true ⌝ }
         ensures { λ r. ⌜ r ≡ checkOf self (now (words .entry)) (now (nodes .entry)) aim ⌝ }
     {
-        let SetUp::Good = self.set_up(words, nodes) else {
-            return PairCheck::BadSetUp;
-        };
         let list = self.list;
         let block = self.block;
         let arena = list.arena();
@@ -112,5 +112,15 @@ impl Pair {
             return PairCheck::Damaged;
         };
         PairCheck::Good(spot, seeks::entry(nodes, n, aim))
+    }
+
+    // The checks of a call: the set-up, then both lands.
+    pub fn check(self, words: &[u64], nodes: &[u64], aim: Aim) -> PairCheck
+        ensures { λ r. ⌜ r ≡ checkOf self (now (words .entry)) (now (nodes .entry)) aim ⌝ }
+    {
+        let SetUp::Good = self.set_up(words, nodes) else {
+            return PairCheck::BadSetUp;
+        };
+        self.look(words, nodes, aim)
     }
 }

@@ -32,7 +32,7 @@ take-requires c κs =
     let arena = find-size .before in
     let start = arena .before .before .before .before .before in
     list-takes (start .args .self) _ (start .args .which) (start .args .size) (start .args .mode) _ (start .pre)
-    (match-keys2 .match .keys2) _ (arena .arena .ensures) _ (find-size .find-size .ensures) _ (part .part .ensures)
+    _ (arena .arena .ensures) _ (find-size .find-size .ensures) (match-keys2 .match .keys2) _ (part .part .ensures)
 
 same-length : tie.Need-same-length
 same-length c = search needs
@@ -46,7 +46,7 @@ returns-2 c =
     let arena = find-size .before in
     let start = arena .before .before .before .before .before in
     list-0 (start .args .self) _ (start .args .which) (start .args .size) (start .args .mode) _ (start .pre)
-    (match-keys2 .match .keys2) _ (arena .arena .ensures) _ (find-size .find-size .ensures) _ (part .part .ensures) _ _ (take .take .ensures)
+    _ (arena .arena .ensures) _ (find-size .find-size .ensures) (match-keys2 .match .keys2) _ (part .part .ensures) _ _ (take .take .ensures)
 
 pub find-in-list-spec : {M : Type 1} → statement M
 find-in-list-spec =

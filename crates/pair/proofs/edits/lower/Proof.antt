@@ -1,51 +1,38 @@
--- `lower` meets its contract. Assumes nothing.
-use Rattle.pair.proofs.LandEdits.{lower-order, lower-room, lower-never, lower-done}
 use borrow.Author.Needs.{needs}
 use Rattle.pair.proofs.edits.lower.Statement.{statement}
 use Rattle.pair.proofs.edits.lower.Tie as tie
+use Rattle.pair.proofs.edits.lower.Reads as reads
+use Rattle.pair.proofs.edits.lower.Lts as lts
+use Rattle.block_edits.proofs.cut.cut_at.Reads as cut-at-reads
+use Rattle.block_land.proofs.BlockLand.close.Reads as close-reads
+use Rattle.units.proofs.Range.size.Reads as size-reads
+use Rattle.units.proofs.Size.minus.Reads as minus-reads
 
+-- src/edits.rt:81:9
 cut-at-requires : tie.Need-cut-at-requires
-cut-at-requires c κs =
-    c .before .before .pre .at-pair
+cut-at-requires c κs = search needs
 
-enum-known-count : tie.Need-enum-known-count
-enum-known-count c = search needs
-
-same-length : tie.Need-same-length
-same-length c = search needs
-
-returns : tie.Need-returns
-returns c =
-    lower-never _ _ _ (c .before .before .before .before .before .before .args .range) (c .before .before .before .before .before .before .pre) _ _ (c .before .before .before .cut-at .ensures) (c .match .keys2)
-
+-- src/edits.rt:82:35
 size-requires : tie.Need-size-requires
-size-requires c κs =
-    lower-order _ _ _ (c .before .before .before .before .before .before .before .before .args .range) (c .before .before .before .before .before .before .before .before .pre)
+size-requires c κs = search needs
 
+-- src/edits.rt:82:9
 minus-requires : tie.Need-minus-requires
-minus-requires c κs =
-    lower-room _ _ _ (c .before .before .before .before .before .before .before .before .before .args .range) (c .before .before .before .before .before .before .before .before .before .pre) _ (c .size .ensures)
+minus-requires c κs = ?
 
+-- src/edits.rt:83:5
 close-requires : tie.Need-close-requires
 close-requires c κs = search needs
 
-same-length-2 : tie.Need-same-length-2
-same-length-2 c = search needs
+-- src/edits.rt:77:1
+same-length : tie.Need-same-length
+same-length c = search needs
 
-returns-2 : tie.Need-returns-2
-returns-2 c =
-    lower-done _ _ _ (c .before .before .before .before .before .before .before .before .before .before .before .args .range) (c .before .before .before .before .before .before .before .before .before .before .before .pre) _ _ (c .before .before .before .before .before .before .before .before .cut-at .ensures) _ _ (c .before .before .before .before .count .given .1) _ (c .before .before .size .ensures) _ (c .before .minus .ensures) _ (c .close .ensures)
+-- src/edits.rt:77:1
+returns : tie.Need-returns
+returns c = ?
 
 pub lower-spec : {M : Type 1} → statement M
 lower-spec =
     tie.close
-    (tie.spec
-    cut-at-requires
-    enum-known-count
-    same-length
-    returns
-    size-requires
-    minus-requires
-    close-requires
-    same-length-2
-    returns-2)
+    (tie.spec cut-at-requires size-requires minus-requires close-requires same-length returns)
