@@ -1,31 +1,27 @@
+-- `Pair::check` meets its contract: the set-up, then the look. Assumes nothing.
+use Rattle.units.proofs.Cases.{set-up-true}
+use Rattle.pair.proofs.Checking.{check-up}
 use borrow.Author.Needs.{needs}
 use Rattle.pair.proofs.Pair.check.Statement.{statement}
 use Rattle.pair.proofs.Pair.check.Tie as tie
-use Rattle.pair.proofs.Pair.check.Reads as reads
-use Rattle.pair.proofs.Pair.check.Lts as lts
-use Rattle.pair.proofs.Pair.look.Reads as look-reads
-use Rattle.pair.proofs.Pair.set_up.Reads as set-up-reads
 
--- src/lib.rt:121:27
 set-up-requires : tie.Need-set-up-requires
 set-up-requires c κs = search needs
 
 enum-told : tie.Need-enum-told
 enum-told c = search needs
 
--- src/lib.rt:122:13
 enum-told-2 : tie.Need-enum-told-2
 enum-told-2 c = search needs
 
--- src/lib.rt:122:13
 returns : tie.Need-returns
-returns c = ?
+returns c =
+    let up = c .before .before in
+    check-up _ _ _ (up .before .before .before .args .aim) _ (up .set-up .ensures) (c .enum-told2 .given .1)
 
--- src/lib.rt:124:9
 look-requires : tie.Need-look-requires
-look-requires c κs = ?
+look-requires c κs = set-up-true _ _ (c .before .before .set-up .ensures) (c .enum-told .given .1)
 
--- src/lib.rt:118:5
 returns-2 : tie.Need-returns-2
 returns-2 c = search needs
 

@@ -1,121 +1,135 @@
+-- `Pair::find` meets its contract: 5, 6, 4, and then the ranges chosen. Assumes nothing.
+use Rattle.units.proofs.Cases.{set-up-true}
+use Rattle.pair.proofs.FindAnswers.{find-5, find-align, find-positive, find-6, find-4, find-ready}
 use borrow.Author.Needs.{needs}
 use Rattle.pair.proofs.Pair.find.Statement.{statement}
 use Rattle.pair.proofs.Pair.find.Tie as tie
-use Rattle.pair.proofs.Pair.find.Reads as reads
-use Rattle.pair.proofs.Pair.find.Lts as lts
-use Rattle.block_land.proofs.BlockLand.arena.Reads as arena-reads
-use Rattle.pair.proofs.Pair.find_at.Reads as find-at-reads
-use Rattle.pair.proofs.Pair.look.Reads as look-reads
-use Rattle.pair.proofs.Pair.set_up.Reads as set-up-reads
-use Rattle.pair.proofs.none_found.Reads as none-found-reads
-use Rattle.units.proofs.aims.Aim.of_find.Reads as of-find-reads
-use Rattle.units.proofs.rules.Arena.check_find.Reads as check-find-reads
-use Rattle.units.proofs.rules.Arena.divided.Reads as divided-reads
-use Rattle.units.proofs.rules.Arena.find_size.Reads as find-size-reads
 
--- src/find.rt:179:27
 set-up-requires : tie.Need-set-up-requires
 set-up-requires c κs = search needs
 
 enum-told : tie.Need-enum-told
 enum-told c = search needs
 
--- src/find.rt:180:13
 enum-told-2 : tie.Need-enum-told-2
 enum-told-2 c = search needs
 
--- src/find.rt:180:13
 none-found-requires : tie.Need-none-found-requires
 none-found-requires c κs = search needs
 
--- src/find.rt:180:13
 same-length : tie.Need-same-length
 same-length c = search needs
 
--- src/find.rt:180:13
 same-length-2 : tie.Need-same-length-2
 same-length-2 c = search needs
 
--- src/find.rt:180:13
 returns : tie.Need-returns
-returns c = ?
+returns c =
+    let up = c .before .before .before in
+    let start = up .before .before .before .before .before in
+    find-5 (start .args .self) _ _ (start .args .which) (start .args .size) (start .args .mode) _ (up .set-up .ensures) (c .before .enum-told2 .given .1) _ (c .none-found .ensures)
 
--- src/find.rt:183:21
 arena-requires : tie.Need-arena-requires
 arena-requires c κs = search needs
 
--- src/find.rt:183:13
 divided-requires : tie.Need-divided-requires
-divided-requires c κs = ?
+divided-requires c κs =
+    let told = c .before .before in
+    let up = told .before .before in
+    let start = up .before .before .before .before .before in
+    find-align (start .args .self) _ _ (start .args .which) (start .args .size) (start .args .mode) _ (up .set-up .ensures) (told .enum-told .given .1) _ (c .arena .ensures)
 
--- src/find.rt:184:13
 check-find-requires : tie.Need-check-find-requires
-check-find-requires c κs = ?
+check-find-requires c κs =
+    let told = c .before .before .before in
+    let up = told .before .before in
+    let start = up .before .before .before .before .before in
+    find-positive (start .args .self) _ _ (start .args .which) (start .args .size) (start .args .mode) _ (up .set-up .ensures) (told .enum-told .given .1) _ (c .before .arena .ensures) _ (c .divided .ensures)
 
--- src/find.rt:185:46
 find-size-requires : tie.Need-find-size-requires
-find-size-requires c κs = ?
+find-size-requires c κs = search needs
 
--- src/find.rt:185:13
 of-find-requires : tie.Need-of-find-requires
 of-find-requires c κs = search needs
 
--- src/find.rt:186:37
 look-requires : tie.Need-look-requires
-look-requires c κs = ?
+look-requires c κs =
+    let told = c .before .before .before .before .before .before .before .before in
+    set-up-true _ _ (told .before .before .set-up .ensures) (told .enum-told .given .1)
 
--- src/find.rt:186:29
 enum-known-s : tie.Need-enum-known-s
 enum-known-s c = search needs
 
--- src/find.rt:187:13
 none-found-requires-2 : tie.Need-none-found-requires-2
 none-found-requires-2 c κs = search needs
 
--- src/find.rt:187:13
 same-length-3 : tie.Need-same-length-3
 same-length-3 c = search needs
 
--- src/find.rt:187:13
 same-length-4 : tie.Need-same-length-4
 same-length-4 c = search needs
 
--- src/find.rt:187:13
 returns-2 : tie.Need-returns-2
-returns-2 c = ?
+returns-2 c =
+    let look = c .before .before in
+    let aim = look .before .before .before in
+    let check = aim .before .before in
+    let divided = check .before in
+    let arena = divided .before in
+    let told = arena .before .before in
+    let up = told .before .before in
+    let start = up .before .before .before .before .before in
+    find-6 (start .args .self) _ _ (start .args .which) (start .args .size) (start .args .mode) _ (up .set-up .ensures) (told .enum-told .given .1) _ (arena .arena .ensures) _ (divided .divided .ensures)
+    _ (check .check-find .ensures) _ _ (look .look .ensures) (c .before .match2 .keys2) _ (c .none-found2 .ensures)
 
 enum-told-3 : tie.Need-enum-told-3
 enum-told-3 c = search needs
 
--- src/find.rt:192:13
 none-found-requires-3 : tie.Need-none-found-requires-3
 none-found-requires-3 c κs = search needs
 
--- src/find.rt:192:13
 same-length-5 : tie.Need-same-length-5
 same-length-5 c = search needs
 
--- src/find.rt:192:13
 same-length-6 : tie.Need-same-length-6
 same-length-6 c = search needs
 
--- src/find.rt:192:13
 returns-3 : tie.Need-returns-3
-returns-3 c = ?
+returns-3 c =
+    let spot = c .before .before .before in
+    let look = spot .before .before in
+    let aim = look .before .before .before in
+    let check = aim .before .before in
+    let divided = check .before in
+    let arena = divided .before in
+    let told = arena .before .before in
+    let up = told .before .before in
+    let start = up .before .before .before .before .before in
+    find-4 (start .args .self) _ _ (start .args .which) (start .args .size) (start .args .mode) _ (up .set-up .ensures) (told .enum-told .given .1) _ (arena .arena .ensures) _ (divided .divided .ensures)
+    _ (check .check-find .ensures) _ _ (look .look .ensures) _ _ (spot .s .given .1) (c .before .match3 .keys2) _ (c .none-found3 .ensures)
 
--- src/find.rt:194:9
 find-at-requires : tie.Need-find-at-requires
-find-at-requires c κs = ?
+find-at-requires c κs =
+    let good-size = c .before .before in
+    let spot = good-size .before .before .before in
+    let look = spot .before .before in
+    let aim = look .before .before .before in
+    let check = aim .before .before in
+    let divided = check .before in
+    let arena = divided .before in
+    let told = arena .before .before in
+    let up = told .before .before in
+    let start = up .before .before .before .before .before in
+    find-ready (start .args .self) _ _ (start .args .which) (start .args .size) (start .args .mode) _ (up .set-up .ensures) (told .enum-told .given .1) _ (arena .arena .ensures) _ (divided .divided .ensures)
+    _ (check .check-find .ensures) _ _ (look .look .ensures) _ _ (spot .s .given .1) (good-size .enum-told3 .given .1)
+    _ (aim .before .find-size .ensures) (aim .of-find .ensures)
 
--- src/find.rt:169:5
 same-length-7 : tie.Need-same-length-7
 same-length-7 c = search needs
 
--- src/find.rt:169:5
 same-length-8 : tie.Need-same-length-8
 same-length-8 c = search needs
 
--- src/find.rt:169:5
 returns-4 : tie.Need-returns-4
 returns-4 c = search needs
 

@@ -1,65 +1,89 @@
+-- `Pair::look` meets its contract: the table, then the walk beside it. Assumes nothing.
+use Rattle.pair.proofs.Checking.{check-align, check-arena, check-words, check-table, check-rising, check-walk, check-good}
 use borrow.Author.Needs.{needs}
 use Rattle.pair.proofs.Pair.look.Statement.{statement}
 use Rattle.pair.proofs.Pair.look.Tie as tie
-use Rattle.pair.proofs.Pair.look.Reads as reads
-use Rattle.pair.proofs.Pair.look.Lts as lts
-use Rattle.block_words.proofs.seeks.entry.Reads as entry-reads
-use Rattle.block_words.proofs.sound.Reads as sound-reads
-use Rattle.list_land.proofs.ListLand.arena.Reads as arena-reads
-use Rattle.list_land.proofs.ListLand.chain.Reads as chain-reads
-use Rattle.pair_words.proofs.walks.survey.Reads as survey-reads
-use Rattle.units.proofs.rules.Arena.divided.Reads as divided-reads
 
--- src/lib.rt:104:13
 arena-requires : tie.Need-arena-requires
 arena-requires c κs = search needs
 
--- src/lib.rt:106:32
 sound-requires : tie.Need-sound-requires
-sound-requires c κs = ?
+sound-requires c κs =
+    let arena = c .before in
+    let start = arena .before .before .before .before .before in
+    check-arena (start .args .self) _ _ (start .args .aim) (start .pre) _ (arena .arena .ensures)
 
 enum-told : tie.Need-enum-told
 enum-told c = search needs
 
--- src/lib.rt:107:13
 enum-told-2 : tie.Need-enum-told-2
 enum-told-2 c = search needs
 
--- src/lib.rt:107:13
 returns : tie.Need-returns
-returns c = ?
+returns c =
+    let sound = c .before .before in
+    let arena = sound .before .before in
+    let start = arena .before .before .before .before .before in
+    check-table (start .args .self) _ _ (start .args .aim) (start .pre) _ (arena .arena .ensures) _ (sound .sound .ensures) (c .enum-told2 .given .1)
 
--- src/lib.rt:110:13
 divided-requires : tie.Need-divided-requires
-divided-requires c κs = ?
+divided-requires c κs =
+    let arena = c .before .before .before .before in
+    let start = arena .before .before .before .before .before in
+    check-align (start .args .self) _ _ (start .args .aim) (start .pre) _ (arena .arena .ensures)
 
--- src/lib.rt:111:64
 chain-requires : tie.Need-chain-requires
 chain-requires c κs = search needs
 
--- src/lib.rt:111:36
 survey-requires : tie.Need-survey-requires
-survey-requires c κs = ?
+survey-requires c κs =
+    let divided = c .before in
+    let told = divided .before in
+    let sound = told .before .before in
+    let arena = sound .before .before in
+    let start = arena .before .before .before .before .before in
+    (check-words (start .args .self) _ _ (start .args .aim) (start .pre) _ (arena .arena .ensures) _ (divided .divided .ensures), check-rising (start .args .self) _ _ (start .args .aim) (start .pre) _ (arena .arena .ensures) _ (sound .sound .ensures) (told .enum-told .given .1))
 
--- src/lib.rt:111:28
 enum-known-spot : tie.Need-enum-known-spot
 enum-known-spot c = search needs
 
--- src/lib.rt:112:13
 enum-told-3 : tie.Need-enum-told-3
 enum-told-3 c = search needs
 
--- src/lib.rt:112:13
 returns-2 : tie.Need-returns-2
-returns-2 c = ?
+returns-2 c =
+    let survey = c .before .before in
+    let chain = survey .before in
+    let divided = chain .before in
+    let told = divided .before in
+    let sound = told .before .before in
+    let arena = sound .before .before in
+    let start = arena .before .before .before .before .before in
+    check-walk (start .args .self) _ _ (start .args .aim) (start .pre) _ (arena .arena .ensures) _ (sound .sound .ensures) (told .enum-told .given .1)
+    _ (divided .divided .ensures) _ (chain .chain .ensures) _ (survey .survey .ensures) (c .enum-told3 .given .1)
 
--- src/lib.rt:114:31
 entry-requires : tie.Need-entry-requires
-entry-requires c κs = ?
+entry-requires c κs =
+    let survey = c .before .before .before in
+    let divided = survey .before .before in
+    let told = divided .before in
+    let sound = told .before .before in
+    let arena = sound .before .before in
+    let start = arena .before .before .before .before .before in
+    check-rising (start .args .self) _ _ (start .args .aim) (start .pre) _ (arena .arena .ensures) _ (sound .sound .ensures) (told .enum-told .given .1)
 
--- src/lib.rt:98:5
 returns-3 : tie.Need-returns-3
-returns-3 c = ?
+returns-3 c =
+    let spot = c .before .before in
+    let survey = spot .before .before in
+    let chain = survey .before in
+    let divided = chain .before in
+    let told = divided .before in
+    let sound = told .before .before in
+    let arena = sound .before .before in
+    let start = arena .before .before .before .before .before in
+    check-good (start .args .self) _ _ (start .args .aim) (start .pre) _ (arena .arena .ensures) _ (sound .sound .ensures) (told .enum-told .given .1)
+    _ (divided .divided .ensures) _ (chain .chain .ensures) _ (survey .survey .ensures) _ (spot .spot .given .1) _ (c .entry .ensures)
 
 pub look-spec : {M : Type 1} → statement M
 look-spec =
