@@ -12,8 +12,8 @@ use Rattle.sessions.specs.Sessions.{twelve, AllHold}
 
 pub twelve-hold : AllHold twelve
 unfolding goodAlign arenaCheck rangeCheck largestCheck sizeCheck mayBegin mayEnd stepAt walkFor walkFrom soundWalk soundTable
-    list-layout.setUp list-layout.sound list-layout.readOf list.inserted list.deleted list.found list.openedOf
-    block-layout.setUp block-layout.sound block-layout.readOf block.inserted block.deleted block.openedOf block.openedWords
+    list-layout.setUp list-layout.sound list-layout.readOf list.does list.openedOf
+    block-layout.setUp block-layout.sound block-layout.readOf block.does block.openedOf block.openedWords
 twelve-hold = (
   ((refl, (refl, (refl, (refl, (refl, (refl, (refl, (refl, tt)))))))), refl),
   (((refl, (refl, (refl, tt))), refl), (((refl, tt), refl), (((refl, tt), refl), tt))),
