@@ -5,7 +5,7 @@ use units::Arena;
 use units::Range;
 ghost use mathlib.Core.Path.{_≡_};
 ghost use Prim.Native.Nat.{_≤_};
-ghost use Rattle.list_edits.specs.Places.{Following, followingOf, joinOf, Placing, placeOf};
+ghost use Rattle.list_edits.specs.inner.Places.{Following, followingOf, joinOf, Placing, placeOf};
 
 // The place of a fresh range before the range above it, which may touch it or overlap it.
 fn place_before(prev: Range, fresh: Range, joins: u64, above: Spot) -> Join

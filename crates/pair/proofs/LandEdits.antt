@@ -9,26 +9,26 @@ use Rattle.units.specs.declared.Range as units
 use Rattle.units.specs.declared.Size.{Size}
 use Rattle.units.specs.declared.rules.Arena.{Arena}
 use Rattle.units.proofs.Tests.{clash}
-use Rattle.model.specs.Marks.{Range}
-use Rattle.model.specs.Lists.{total, overlaps, holder}
+use Rattle.model.specs.Marks.{Range, total}
+use Rattle.model.specs.inner.Lists.{overlaps, holder}
 use Rattle.model.proofs.Totals.{total-delete}
 use Rattle.list_words.specs.Laying.{lay}
 use Rattle.list_words.specs.declared.Chain.{Chain}
 use Rattle.list_words.specs.declared.Spot.{Spot}
-use Rattle.list_edits.specs.Chains as chains
-use Rattle.list_edits.specs.Chains.{metOf, Held, Holding, mayAsk, edited, editedWords, putOf, putWords, cutChain}
+use Rattle.list_edits.specs.inner.Chains as chains
+use Rattle.list_edits.specs.inner.Chains.{metOf, Held, Holding, mayAsk, edited, editedWords, putOf, putWords, cutChain}
 use Rattle.list_edits.specs.declared.Edited as list-edited
 use Rattle.list_edits.proofs.Answered.{edited-refused, edited-done}
 use Rattle.list_land.specs.Layout as list
-use Rattle.list_land.specs.Parts.{arenaIn, chainIn, closedWith, reachBase}
+use Rattle.list_land.specs.inner.Parts.{arenaIn, chainIn, closedWith, reachBase}
 use Rattle.list_land.specs.declared.ListLand.{ListLand}
 use Rattle.list_land.proofs.Requests as list-requests
 use Rattle.block_words.specs.Words.{fill}
 use Rattle.block_land.specs.Layout as block
-use Rattle.block_land.specs.Parts as block-parts
+use Rattle.block_land.specs.inner.Parts as block-parts
 use Rattle.block_land.specs.declared.BlockLand.{BlockLand}
 use Rattle.block_land.proofs.Requests.{closes, whole}
-use Rattle.pair.specs.Editing.{listLess, listMore, tableLess, chained, joined, given, Giving, Taking, Lowering}
+use Rattle.pair.specs.inner.Editing.{listLess, listMore, tableLess, chained, joined, given, Giving, Taking, Lowering}
 use Rattle.pair.specs.declared.edits.Joined.{Joined}
 
 module _ (h : ListLand) (ws : List ℕ) (y : units.Range) (s : Spot) where

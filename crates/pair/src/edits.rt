@@ -9,7 +9,7 @@ ghost use Rattle.list_words.specs.Laying.{lay};
 ghost use Rattle.list_land.specs.Layout as list-layout;
 ghost use Rattle.block_words.specs.Words.{fill};
 ghost use Rattle.block_land.specs.Layout as block-layout;
-ghost use Rattle.pair.specs.Editing.{listLess, listMore, tableLess, chained, joined, given, Giving, Taking, Lowering};
+ghost use Rattle.pair.specs.inner.Editing.{listLess, listMore, tableLess, chained, joined, given, Giving, Taking, Lowering};
 
 // The chain of a list with a range put in, and the isolated range that then contains it.
 pub struct Joined {

@@ -1,5 +1,5 @@
 -- `lower` meets its contract. Assumes nothing.
-use Rattle.pair.proofs.LandEdits.{lower-order, lower-room, lower-done}
+use Rattle.pair.proofs.LandEdits.{lower-room, lower-done}
 use borrow.Author.Needs.{needs}
 use Rattle.pair.proofs.edits.lower.Statement.{statement}
 use Rattle.pair.proofs.edits.lower.Tie as tie

@@ -1,6 +1,6 @@
 -- `put` meets its contract. Assumes nothing.
 use mathlib.Core.Path.{refl}
-use Rattle.pair.specs.Editing.{chained}
+use Rattle.pair.specs.inner.Editing.{chained}
 use Rattle.pair.proofs.LandEdits.{put-asks, put-never, put-done}
 use borrow.Author.Needs.{needs}
 use Rattle.pair.proofs.edits.put.Statement.{statement}
