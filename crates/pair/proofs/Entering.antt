@@ -13,13 +13,12 @@ use Rattle.model.proofs.Totals.{total-insert}
 use Rattle.list_words.specs.Laying.{lay}
 use Rattle.list_words.specs.inner.Surveys.{walkOf, kept-of}
 use Rattle.list_words.specs.declared.Spot as list-spot
-use Rattle.block_words.specs.inner.Surveys.{Spot}
 use Rattle.list_land.specs.Layout as list
 use Rattle.list_land.specs.inner.Parts as list-parts
 use Rattle.list_land.specs.declared.ListLand.{ListLand}
 use Rattle.block_edits.specs.inner.Edits as edits
 use Rattle.block_edits.specs.inner.Edits.{Sorted}
-use Rattle.block_edits.specs.declared.Edited.{Edited}
+use Rattle.block_edits.specs.declared.TableEdited.{TableEdited}
 use Rattle.block_edits.proofs.Answered.{put-refused, put-full, put-done, put-words}
 use Rattle.block_land.specs.Layout as block
 use Rattle.block_land.specs.inner.Parts as block-parts
@@ -33,7 +32,7 @@ use Rattle.pair_words.specs.inner.Lefts.{Left}
 use Rattle.pair.specs.inner.Editing.{listMore, joined, Giving}
 use Rattle.pair.specs.inner.Inserts.{flushedCounts, flushedNodes, enterList, enterWords, Roomless, blocked, enteredNodes, entered, enteredWords, Open}
 use Rattle.pair.specs.declared.Pair.{Pair}
-use Rattle.pair.specs.declared.edits.Joined.{Joined}
+use Rattle.pair.specs.declared.edits.Joined.{TableJoined}
 use Rattle.pair.specs.declared.insert.Counts.{Counts}
 use Rattle.pair.specs.declared.insert.Entered.{Entered}
 
@@ -59,10 +58,10 @@ module _ (p : Pair) (ws : List ℕ) (y : units.Range) (s : list-spot.Spot) (k : 
         let u : t ≡ kept-of (Aim.Reach (y .base)) (list.walkOf (p .list) ws .met) = rw ea at et in
         record { looked = record { good = k .good; whole = k .whole; kept = u }; good = k .asked; apart = k .clear }
 
-  abbrev listed : Joined → Entered
+  abbrev listed : TableJoined → Entered
   listed g = record { counts = record { chain = g .chain; ranges = p .block .ranges; bytes = p .block .bytes }; range = g .range }
 
-  pub enter-listed : (g : Joined) (ws' : List ℕ) → (g ≡ joined (p .list) ws y) × (ws' ≡ lay (list.base (p .list)) (listMore (p .list) ws y) ws) →
+  pub enter-listed : (g : TableJoined) (ws' : List ℕ) → (g ≡ joined (p .list) ws y) × (ws' ≡ lay (list.base (p .list)) (listMore (p .list) ws y) ws) →
       (listed g ≡ enterList p ws y) × (ws' ≡ enterWords p ws y)
   enter-listed g ws' e = (ap listed (e .0), e .1)
 
@@ -77,17 +76,17 @@ module _ (p : Pair) (ws vs : List ℕ) (y : units.Range) (s : list-spot.Spot) (k
   abbrev Enters : Entered → List ℕ → List ℕ → Type 0
   Enters w ws' vs' = (w ≡ entered p ws vs y) × (ws' ≡ enteredWords p ws vs y) × (vs' ≡ enteredNodes p vs y)
 
-  module _ (d : Edited) (vs' : List ℕ) (ed : (d ≡ edits.putOf vs (p .block .ranges) y) × (vs' ≡ edits.putWords vs (p .block .ranges) y)) where
-    pub enter-never : {P : Type 0} → d ≡ Edited.Refused → P
+  module _ (d : TableEdited) (vs' : List ℕ) (ed : (d ≡ edits.putOf vs (p .block .ranges) y) × (vs' ≡ edits.putWords vs (p .block .ranges) y)) where
+    pub enter-never : {P : Type 0} → d ≡ TableEdited.Refused → P
     enter-never f = clash (put-refused vs (p .block .ranges) y (sym (ed .0) ∙ f)) (k .clear)
 
-    pub enter-full : d ≡ Edited.Full → (w : Entered) (ws' : List ℕ) → (w ≡ enterList p ws y) × (ws' ≡ enterWords p ws y) → Enters w ws' vs'
+    pub enter-full : d ≡ TableEdited.Full → (w : Entered) (ws' : List ℕ) → (w ≡ enterList p ws y) × (ws' ≡ enterWords p ws y) → Enters w ws' vs'
     enter-full f w ws' q =
         let o = put-full vs (p .block .ranges) y (sym (ed .0) ∙ f) in
-        let v = put-words vs (p .block .ranges) y Edited.Full (sym (ed .0) ∙ f) in
+        let v = put-words vs (p .block .ranges) y TableEdited.Full (sym (ed .0) ∙ f) in
         (rw (o .1) (q .0), rw (o .1) (q .1), rw (o .1) (ed .1 ∙ v))
 
-    module _ (x : units.Range) (m : ℕ) (f : d ≡ Edited.Done x m) (z : Size) (ez : z .0 ≡ y .limit .0 - y .base .0) where
+    module _ (x : units.Range) (m : ℕ) (f : d ≡ TableEdited.Done x m) (z : Size) (ez : z .0 ≡ y .limit .0 - y .base .0) where
       pub enter-room : p .block .bytes .0 + z .0 < 18446744073709551616
       enter-room = let t = few-bytes (p .block) vs read in let u = k .upto in omega arith
 
@@ -100,7 +99,7 @@ module _ (p : Pair) (ws vs : List ℕ) (y : units.Range) (s : list-spot.Spot) (k
           let e : t .0 ≡ total (blocked p vs y) = omega arith in
           let c = o .count in
           let v = o .range in
-          let w = put-words vs (p .block .ranges) y (Edited.Done x m) (sym (ed .0) ∙ f) in (
+          let w = put-words vs (p .block .ranges) y (TableEdited.Done x m) (sym (ed .0) ∙ f) in (
             rw (o .fits) (λ i. record { counts = record { chain = list-parts.chainIn (p .list); ranges = c i; bytes = record { 0 = e i } }; range = v i }),
             rw (o .fits),
             rw (o .fits) (ed .1 ∙ w),

@@ -17,7 +17,7 @@ use Rattle.list_words.specs.declared.Chain.{Chain}
 use Rattle.list_words.specs.declared.Spot.{Spot}
 use Rattle.list_edits.specs.inner.Chains as chains
 use Rattle.list_edits.specs.inner.Chains.{metOf, Held, Holding, mayAsk, edited, editedWords, putOf, putWords, cutChain}
-use Rattle.list_edits.specs.declared.Edited as list-edited
+use Rattle.list_edits.specs.declared.ChainEdited as list-edited
 use Rattle.list_edits.proofs.Answered.{edited-refused, edited-done}
 use Rattle.list_land.specs.Layout as list
 use Rattle.list_land.specs.inner.Parts.{arenaIn, chainIn, closedWith, reachBase}
@@ -29,7 +29,7 @@ use Rattle.block_land.specs.inner.Parts as block-parts
 use Rattle.block_land.specs.declared.BlockLand.{BlockLand}
 use Rattle.block_land.proofs.Requests.{closes, whole}
 use Rattle.pair.specs.inner.Editing.{listLess, listMore, tableLess, chained, joined, given, Giving, Taking, Lowering}
-use Rattle.pair.specs.declared.edits.Joined.{Joined}
+use Rattle.pair.specs.declared.edits.Joined.{ChainJoined}
 
 module _ (h : ListLand) (ws : List ℕ) (y : units.Range) (s : Spot) where
   abbrev met : List Range
@@ -70,14 +70,14 @@ module _ (h : ListLand) (ws : List ℕ) (y : units.Range) (s : Spot) where
     pub give-asked : Giving h ws y s → Giving (chained h c) ws y s
     give-asked k = subst (λ (x : ListLand). Giving x ws y s) (sym same) k
 
-    pub give-done : (r : Joined) (ws' : List ℕ) →
+    pub give-done : (r : ChainJoined) (ws' : List ℕ) →
         (r ≡ joined (chained h c) ws y) × (ws' ≡ lay (list.base h) (listMore (chained h c) ws y) ws) →
         (z : ListLand) → z ≡ chained h (r .chain) →
         (record { list = z; range = r .range } ≡ given h ws y) × (ws' ≡ lay (list.base h) (listMore h ws y) ws)
     give-done r ws' e z ez =
         let f : r ≡ joined h ws y = e .0 ∙ ap (λ (x : ListLand). joined x ws y) same in (
           ap (λ (x : ListLand). record { list = x; range = r .range }) ez
-              ∙ ap (λ (x : Joined). record { list = chained h (x .chain); range = x .range }) f,
+              ∙ ap (λ (x : ChainJoined). record { list = chained h (x .chain); range = x .range }) f,
           e .1 ∙ ap (λ (x : ListLand). lay (list.base h) (listMore x ws y) ws) same,
         )
 

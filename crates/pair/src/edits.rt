@@ -12,7 +12,7 @@ ghost use Rattle.block_land.specs.Layout as block-layout;
 ghost use Rattle.pair.specs.inner.Editing.{listLess, listMore, tableLess, chained, joined, given, Giving, Taking, Lowering};
 
 // The chain of a list with a range put in, and the isolated range that then contains it.
-pub struct Joined {
+pub struct ChainJoined {
     pub chain: Chain,
     pub range: Range,
 }
@@ -30,21 +30,21 @@ pub(crate) fn put(
     words: &mut [u64],
     range: Range,
     spot: Spot,
-) -> Joined
+) -> ChainJoined
     requires { ⌜ Giving (chained list chain) (now words) range spot ⌝ }
     ensures { λ r. ⌜ (r ≡ joined (chained list chain) (now (words .entry)) range) × (now (words .exit) ≡ lay (list-layout.base list) (listMore (chained list chain) (now (words .entry)) range) (now (words .entry))) ⌝ }
 {
-    let list_edits::Edited::Done(c, fresh) = list_edits::put_at(
+    let list_edits::ChainEdited::Done(c, fresh) = list_edits::put_at(
         list.arena(),
         words,
         chain,
         range,
         spot,
     ) else {
-        return Joined { chain, range };
+        return ChainJoined { chain, range };
     };
     let next = c;
-    Joined {
+    ChainJoined {
         chain: next,
         range: fresh,
     }
@@ -64,7 +64,7 @@ pub(crate) fn give(list: ListLand, words: &mut [u64], range: Range, spot: Spot) 
     }
 }
 
-// Takes a part out of the range at a spot of a sound list.
+// PartOf a part out of the range at a spot of a sound list.
 pub(crate) fn take(list: ListLand, words: &mut [u64], range: Range, spot: Spot) -> ListLand
     requires { ⌜ Taking list (now words) range spot ⌝ }
     ensures { λ r. ⌜ (r ≡ list-layout.closed list (listLess list (now (words .entry)) range)) × (now (words .exit) ≡ lay (list-layout.base list) (listLess list (now (words .entry)) range) (now (words .entry))) ⌝ }
@@ -73,7 +73,7 @@ pub(crate) fn take(list: ListLand, words: &mut [u64], range: Range, spot: Spot) 
     list.close(chain.head, chain.ranges, chain.bytes)
 }
 
-// Takes a part out of pair i of a sound table, where there is room for what is left.
+// PartOf a part out of pair i of a sound table, where there is room for what is left.
 pub(crate) fn lower(block: BlockLand, nodes: &mut [u64], i: usize, range: Range) -> BlockLand
     requires { ⌜ Lowering block (now nodes) i range ⌝ }
     ensures { λ r. ⌜ (r ≡ block-layout.closed block (tableLess block (now (nodes .entry)) range)) × (now (nodes .exit) ≡ fill (tableLess block (now (nodes .entry)) range) (now (nodes .entry))) ⌝ }
