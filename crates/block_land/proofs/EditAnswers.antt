@@ -11,19 +11,20 @@ use Rattle.units.specs.declared.Range.{Range}
 use Rattle.units.specs.declared.Size.{Size}
 use Rattle.units.specs.declared.aims.Aim.{Aim}
 use Rattle.model.specs.Calls.{Call, insert, delete, good-range}
-use Rattle.model.specs.Lists.{total, delete-from}
+use Rattle.model.specs.Marks.{total}
+use Rattle.model.specs.inner.Lists.{delete-from}
 use Rattle.model.proofs.EditAnswers as answers
 use Rattle.model.proofs.EditAnswers.{Edits, insert-edits, delete-edits}
 use Rattle.model.proofs.Requests.{range-rules}
 use Rattle.model.proofs.Totals.{total-insert, total-delete}
 use Rattle.block_words.specs.Words.{capacity}
 use Rattle.block_words.specs.declared.Entry.{Entry}
-use Rattle.block_edits.specs.Edits.{editedNumber, edited, editedWords, putOf, putWords, cutOf, cutWords}
+use Rattle.block_edits.specs.inner.Edits.{editedNumber, edited, editedWords, putOf, putWords, cutOf, cutWords}
 use Rattle.block_edits.specs.declared.Edited.{Edited}
 use Rattle.block_edits.proofs.Answered.{edited-number, edited-bad, edited-full, edited-done}
-use Rattle.block_land.specs.Calls.{does, inserted, deleted, changed, refusedBy}
+use Rattle.block_land.specs.Calls.{does, inserted, deleted, changed}
 use Rattle.block_land.specs.Layout.{base, limit, arenaOf, tableOf}
-use Rattle.block_land.specs.Parts.{closedWith, Looked, reachBase, reachLimit}
+use Rattle.block_land.specs.inner.Parts.{closedWith, Looked, reachBase, reachLimit, refusedBy}
 use Rattle.block_land.specs.declared.BlockLand.{BlockLand}
 use Rattle.block_land.specs.declared.Changed.{Changed}
 use Rattle.block_land.proofs.Land.{block-land}

@@ -8,7 +8,7 @@ use lib.Dec.{eqb}
 use lib.ListN.{length}
 use types.Run.{OneOf}
 use denote.Enum.Declared.{tagOf}
-use Rattle.units.specs.Aims.{isNone}
+use Rattle.units.specs.inner.Aims.{isNone}
 use Rattle.units.specs.Rules.{findSize}
 use Rattle.units.specs.declared.Mode.{Mode}
 use Rattle.units.specs.declared.Range as units
@@ -17,23 +17,23 @@ use Rattle.units.specs.declared.Which.{Which}
 use Rattle.units.specs.declared.rules.Arena.{Arena}
 use Rattle.units.proofs.Mode as mode-type
 use Rattle.model.specs.Calls.{good-size}
-use Rattle.model.specs.Lists.{total, delete-from}
-use Rattle.model.specs.Marks.{struct, plain}
-use Rattle.model.specs.Steps.{part}
+use Rattle.model.specs.inner.Lists.{delete-from}
+use Rattle.model.specs.Marks.{struct, plain, total}
+use Rattle.model.specs.inner.Steps.{part}
 use Rattle.model.proofs.FindAnswers as answers
 use Rattle.model.proofs.FindAnswers.{find-long, find-part, find-fewer}
 use Rattle.model.proofs.Parts.{Takes}
 use Rattle.model.proofs.Totals.{total-delete}
-use Rattle.finds.specs.Parts.{Within}
+use Rattle.finds.specs.inner.Parts.{Within}
 use Rattle.block_words.specs.Words.{capacity, fill}
-use Rattle.block_words.specs.Surveys.{entryOf}
+use Rattle.block_words.specs.inner.Surveys.{entryOf}
 use Rattle.block_words.specs.declared.Entry.{Entry}
-use Rattle.block_edits.specs.Edits.{remaining}
-use Rattle.block_edits.specs.Places.{Holding}
+use Rattle.block_edits.specs.inner.Edits.{remaining}
+use Rattle.block_edits.specs.inner.Places.{Holding}
 use Rattle.block_edits.proofs.Entering.{Numbered, kept-numbered}
 use Rattle.block_land.specs.Calls.{found, foundOf}
 use Rattle.block_land.specs.Layout.{base, limit, align, arenaOf, tableOf}
-use Rattle.block_land.specs.Parts.{arenaIn, closedWith, Readable, Looked, findAim}
+use Rattle.block_land.specs.inner.Parts.{arenaIn, closedWith, Readable, Looked, findAim}
 use Rattle.block_land.specs.declared.BlockLand.{BlockLand}
 use Rattle.block_land.proofs.Land.{block-land}
 use Rattle.block_land.proofs.Requests.{readable, closes, whole, sorted}

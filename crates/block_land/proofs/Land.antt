@@ -10,12 +10,12 @@ use Rattle.model.specs.Lands.{land-call}
 use Rattle.model.specs.Layouts.{reading}
 use Rattle.model.proofs.Aiming.{picked-by}
 use Rattle.model.proofs.Land.{Land}
-use Rattle.block_words.specs.Surveys.{entryOf}
+use Rattle.block_words.specs.inner.Surveys.{entryOf}
 use Rattle.block_words.specs.declared.Entry.{Entry}
 use Rattle.block_edits.proofs.Entering.{entry-here}
 use Rattle.block_land.specs.Calls.{does}
 use Rattle.block_land.specs.Layout.{setUp, sound, tableOf, readOf, layout}
-use Rattle.block_land.specs.Parts.{arenaIn, lookNumber, lookOf}
+use Rattle.block_land.specs.inner.Parts.{arenaIn, lookNumber, lookOf}
 use Rattle.block_land.specs.declared.BlockLand.{BlockLand}
 use Rattle.block_land.specs.declared.Changed.{Changed}
 use Rattle.block_land.specs.declared.Found.{Found}

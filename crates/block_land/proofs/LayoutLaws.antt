@@ -1,16 +1,15 @@
 -- The block land's layout keeps the laws of a layout. Assumes nothing.
 use Prim.Native.Nat.{ℕ, zero, suc, _*_, _≤_}
-use mathlib.Core.Bool.{true, false}
+use mathlib.Core.Bool.{true}
 use mathlib.Core.List.{List, [], _∷_}
 use mathlib.Core.Path.{_≡_, refl, sym, ap, _∙_}
 use native.Mathlib.Omega.{arith}
 use lib.ListN.{length, drop}
 use borrow.Author.Tests.{eq-eqb, le-leb, leb-true}
-use Rattle.units.proofs.Tests.{by}
-use Rattle.model.specs.Marks.{Range}
-use Rattle.model.specs.Lists.{Apart, Aligned, total}
-use Rattle.model.specs.Layouts.{fault, holding}
-use Rattle.model.specs.Lands.{LandLaws}
+use Rattle.model.specs.Marks.{Range, total}
+use Rattle.model.specs.inner.Lists.{Apart, Aligned}
+use Rattle.model.specs.Layouts.{holding}
+use Rattle.model.specs.inner.Laws.{LandLaws}
 use Rattle.model.proofs.Outcomes.{read-whole}
 use Rattle.block_words.specs.Words.{capacity, pairs, clear, soundTable, fill}
 use Rattle.block_words.proofs.Filling.{length-fill, pairs-fill, clear-fill, fill-pairs}

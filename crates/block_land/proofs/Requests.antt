@@ -12,16 +12,16 @@ use Rattle.units.specs.declared.Size.{Size}
 use Rattle.units.specs.declared.aims.Aim.{Aim}
 use Rattle.units.specs.declared.rules.Arena.{Arena}
 use Rattle.model.specs.Calls.{good-range}
-use Rattle.model.specs.Lists.{total}
+use Rattle.model.specs.Marks.{total}
 use Rattle.model.specs.Marks as marks
 use Rattle.model.proofs.Requests.{range-rules}
 use Rattle.model.proofs.Totals.{total-small}
-use Rattle.block_words.specs.Surveys.{Spot}
+use Rattle.block_words.specs.inner.Surveys.{Spot}
 use Rattle.block_words.specs.declared.Entry.{Entry}
-use Rattle.block_edits.specs.Edits.{Sorted}
+use Rattle.block_edits.specs.inner.Edits.{Sorted}
 use Rattle.block_edits.proofs.Entering.{reach-spot}
 use Rattle.block_land.specs.Layout.{base, limit, arenaOf, tableOf, closed}
-use Rattle.block_land.specs.Parts.{arenaIn, closedWith, Readable, Looked}
+use Rattle.block_land.specs.inner.Parts.{arenaIn, closedWith, Readable, Looked}
 use Rattle.block_land.specs.declared.BlockLand.{BlockLand}
 use Rattle.block_land.proofs.Sound.{Fine, fine, placed}
 

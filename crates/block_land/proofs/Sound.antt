@@ -12,7 +12,8 @@ use Rattle.units.proofs.Alignments.{align-positive}
 use Rattle.units.proofs.Cases.{good-case}
 use Rattle.units.proofs.Facts.{GoodArena, arena-facts}
 use Rattle.units.proofs.Tests.{and-left, and-right}
-use Rattle.model.specs.Lists.{Apart, Aligned, total}
+use Rattle.model.specs.Marks.{total}
+use Rattle.model.specs.inner.Lists.{Apart, Aligned}
 use Rattle.block_words.specs.Words.{capacity, clear, canonical, soundTable}
 use Rattle.block_words.proofs.Pairs.{length-pairs}
 use Rattle.block_words.proofs.Canonical.{canonical-apart}

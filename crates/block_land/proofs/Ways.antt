@@ -22,15 +22,15 @@ use Rattle.units.specs.declared.rules.Soundness.{Soundness}
 use Rattle.units.proofs.Cases.{bad-arena, set-up-true, set-up-false, sound-true, sound-false}
 use Rattle.units.proofs.Tests.{by}
 use Rattle.units.proofs.rules.ArenaCheck as arena-type
-use Rattle.block_words.specs.Tallies.{Ready}
-use Rattle.block_words.specs.Surveys.{entryOf, Rising, surveyOf}
+use Rattle.block_words.specs.inner.Tallies.{Ready}
+use Rattle.block_words.specs.inner.Surveys.{entryOf, Rising, surveyOf}
 use Rattle.block_words.specs.declared.Entry.{Entry}
 use Rattle.block_words.specs.Words.{pairs, soundTable, fill}
 use Rattle.block_words.specs.declared.Verdict.{Verdict}
 use Rattle.block_words.proofs.Surveying.{sound-rising}
-use Rattle.block_land.specs.Calls.{refusedBy, foundNone, newLand, openedOf, openedWords}
+use Rattle.block_land.specs.Calls.{newLand, openedOf, openedWords}
 use Rattle.block_land.specs.Layout.{base, limit, align, lent, setUp, sound, tableOf}
-use Rattle.block_land.specs.Parts.{arenaIn, lookOf, Looked}
+use Rattle.block_land.specs.inner.Parts.{arenaIn, lookOf, Looked, refusedBy, foundNone}
 use Rattle.block_land.specs.declared.BlockLand.{BlockLand}
 use Rattle.block_land.specs.declared.Look.{Look}
 use Rattle.block_land.proofs.Sound.{placed}

@@ -3,7 +3,6 @@ use Prim.Native.Nat.{ℕ}
 use mathlib.Core.Bool.{cond}
 use mathlib.Core.List.{List, []}
 use Rattle.units.specs.Rules.{setUpNumber}
-use Rattle.units.specs.Words.{rangeOf}
 use Rattle.units.specs.declared.Mode.{Mode}
 use Rattle.units.specs.declared.Range.{Range}
 use Rattle.units.specs.declared.Which.{Which}
@@ -61,9 +60,3 @@ openedOf b l a ws =
 unfoldable pub openedWords : ℕ → ℕ → ℕ → List ℕ → List ℕ
 openedWords b l a ws = cond (setUp (newLand b l a) ws) (fill [] ws) ws
 
--- A refusal: the handle given and ranges (0, 0).
-abbrev pub refusedBy : BlockLand → ℕ → Changed
-refusedBy h n = record { land = h; answer = n; range = rangeOf 0 0 }
-
-abbrev pub foundNone : BlockLand → ℕ → Found
-foundNone h n = record { land = h; answer = n; range = rangeOf 0 0; old = rangeOf 0 0 }

@@ -7,8 +7,7 @@ use mathlib.Core.Path.{_≡_}
 use lib.Dec.{leb}
 use lib.ListN.{length}
 use Rattle.units.specs.Rules.{arenaCheck, goodArena}
-use Rattle.model.specs.Marks.{Range}
-use Rattle.model.specs.Lists.{total}
+use Rattle.model.specs.Marks.{Range, total}
 use Rattle.model.specs.Calls.{Arena}
 use Rattle.model.specs.Layouts.{Reading, reading}
 use Rattle.model.specs.Lands.{LandLayout}

@@ -10,7 +10,7 @@ use units::Range;
 use units::RangeCheck;
 ghost use mathlib.Core.Path.{_≡_};
 ghost use Rattle.block_land.specs.Calls.{changed, deleted};
-ghost use Rattle.block_land.specs.Parts.{Looked, reachLimit};
+ghost use Rattle.block_land.specs.inner.Parts.{Looked, reachLimit};
 
 impl BlockLand {
     // Delete from a sound table, at the first range that reaches the limit of the request.

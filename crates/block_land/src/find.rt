@@ -13,9 +13,9 @@ use units::Which;
 ghost use mathlib.Core.Bool.{true};
 ghost use mathlib.Core.Path.{_≡_};
 ghost use Rattle.model.specs.Calls.{good-size};
-ghost use Rattle.block_land.specs.Calls.{foundNone, foundOf, found};
+ghost use Rattle.block_land.specs.Calls.{foundOf, found};
 ghost use Rattle.block_land.specs.Layout.{arenaOf};
-ghost use Rattle.block_land.specs.Parts.{Looked, findAim};
+ghost use Rattle.block_land.specs.inner.Parts.{Looked, findAim, foundNone};
 
 fn none_found(land: BlockLand, answer: u64) -> Found
     ensures { λ r. ⌜ r ≡ foundNone land answer ⌝ }

@@ -10,7 +10,7 @@ use units::Range;
 use units::RangeCheck;
 ghost use mathlib.Core.Path.{_≡_};
 ghost use Rattle.block_land.specs.Calls.{changed, inserted};
-ghost use Rattle.block_land.specs.Parts.{Looked, reachBase};
+ghost use Rattle.block_land.specs.inner.Parts.{Looked, reachBase};
 
 impl BlockLand {
     // Insert into a sound table, at the first range that reaches the base of the request.

@@ -21,8 +21,8 @@ ghost use mathlib.Core.Bool.{true};
 ghost use mathlib.Core.Path.{_≡_};
 ghost use Rattle.units.specs.Rules.{goodAlign, setUpOf};
 ghost use Rattle.block_land.specs.Layout.{lent, setUp};
-ghost use Rattle.block_land.specs.Calls.{refusedBy, changed, walked};
-ghost use Rattle.block_land.specs.Parts.{arenaIn, lookNumber, lookOf, closedWith};
+ghost use Rattle.block_land.specs.Calls.{changed, walked};
+ghost use Rattle.block_land.specs.inner.Parts.{arenaIn, lookNumber, lookOf, closedWith, refusedBy};
 
 // The handle of a block land: its arena, the number of ranges and of free bytes.
 #[repr(C)]

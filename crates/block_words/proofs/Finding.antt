@@ -7,15 +7,15 @@ use mathlib.Core.Path.{_≡_, refl, sym, _∙_, ap}
 use native.Mathlib.Omega.{arith}
 use lib.Dec.{leb, ltb}
 use borrow.Author.Tests.{leb-true, leb-false, lt-ltb, le-ltb, ltb-true}
-use Rattle.units.specs.Aims.{none-range, length-of, isNone, takes}
+use Rattle.units.specs.inner.Aims.{none-range, length-of, isNone, takes}
 use Rattle.units.specs.declared.Range.{Range}
 use Rattle.units.specs.declared.Size.{Size}
 use Rattle.units.specs.declared.Which.{Which}
 use Rattle.units.specs.declared.aims.Aim.{Aim}
 use Rattle.units.proofs.Tests.{by, tests}
 use Rattle.block_words.specs.Words.{pairs}
-use Rattle.block_words.specs.Tallies.{pairAt}
-use Rattle.block_words.specs.Surveys.{entry, entryAt, entryOf, Rising}
+use Rattle.block_words.specs.inner.Tallies.{pairAt}
+use Rattle.block_words.specs.inner.Surveys.{entry, entryAt, entryOf, Rising}
 use Rattle.block_words.specs.declared.Entry.{Entry}
 use Rattle.block_words.proofs.Seeking.{rising-inside, rising-order}
 use Rattle.block_words.proofs.Staying.{at-inside, at-end, kept-none, kept-last, kept-at}

@@ -11,8 +11,8 @@ use borrow.Author.Tests.{ltb-true, ltb-false}
 use Rattle.units.specs.declared.Range.{Range}
 use Rattle.model.proofs.Splits.{limits-rise}
 use Rattle.block_words.specs.Words.{pairs}
-use Rattle.block_words.specs.Tallies.{pairAt}
-use Rattle.block_words.specs.Surveys.{Ordered, Spot}
+use Rattle.block_words.specs.inner.Tallies.{pairAt}
+use Rattle.block_words.specs.inner.Surveys.{Ordered, Spot}
 use Rattle.block_words.proofs.Pairs.{length-pairs, get-limit}
 
 rise : (ws : List ℕ) (n j k : ℕ) → Ordered ws n → j ≤ k → k < n → getD ws (2 * j + 1) 0 ≤ getD ws (2 * k + 1) 0

@@ -7,7 +7,7 @@ use native.Mathlib.Omega.{arith}
 use lib.Dec.{ltb}
 use lib.ListN.{length, getD}
 use borrow.Author.Tests.{lt-leb, le-leb, ltb-true, ltb-false}
-use Rattle.units.specs.Aims.{none-range}
+use Rattle.units.specs.inner.Aims.{none-range}
 use Rattle.units.specs.declared.Addr.{Addr}
 use Rattle.units.specs.declared.Range.{Range}
 use Rattle.units.specs.declared.Size.{Size}
@@ -16,10 +16,10 @@ use Rattle.units.specs.declared.aims.Aim.{Aim}
 use Rattle.units.proofs.Tests.{by, tests}
 use Rattle.model.specs.Marks as marks
 use Rattle.model.specs.Marks.{rng}
-use Rattle.model.specs.Lists.{Apart}
+use Rattle.model.specs.inner.Lists.{Apart}
 use Rattle.block_words.specs.Words.{pairs}
-use Rattle.block_words.specs.Tallies.{pairAt}
-use Rattle.block_words.specs.Surveys.{entry, entryAt, entryOf, Rising, Spot}
+use Rattle.block_words.specs.inner.Tallies.{pairAt}
+use Rattle.block_words.specs.inner.Surveys.{entry, entryAt, entryOf, Rising, Spot}
 use Rattle.block_words.specs.declared.Entry.{Entry}
 use Rattle.block_words.proofs.Pairs.{length-pairs, get-pair}
 use Rattle.block_words.proofs.Staying.{at-inside, at-end, kept-at}

@@ -7,16 +7,16 @@ use native.Mathlib.Omega.{arith}
 use lib.Dec.{ltb}
 use lib.ListN.{length, getD}
 use borrow.Author.Tests.{ne-eqb, lt-ltb, le-ltb, ltb-true, ltb-false}
-use Rattle.units.specs.Aims.{none-range, isNone, takes, keepsFirst}
+use Rattle.units.specs.inner.Aims.{none-range, isNone, takes, keepsFirst}
 use Rattle.units.specs.declared.Range as units
 use Rattle.units.specs.declared.aims.Aim.{Aim}
 use Rattle.units.proofs.Fitting.{kept-stays}
 use Rattle.units.proofs.Tests.{by}
 use Rattle.model.specs.Marks.{Range, rng, struct}
-use Rattle.model.specs.Lists.{Apart}
+use Rattle.model.specs.inner.Lists.{Apart}
 use Rattle.block_words.specs.Words.{pairs}
-use Rattle.block_words.specs.Tallies.{pairAt}
-use Rattle.block_words.specs.Surveys.{entry, entryAt, entered, entryOf, Rising}
+use Rattle.block_words.specs.inner.Tallies.{pairAt}
+use Rattle.block_words.specs.inner.Surveys.{entry, entryAt, entered, entryOf, Rising}
 use Rattle.block_words.specs.declared.Entry.{Entry}
 use Rattle.block_words.proofs.Pairs.{length-pairs, get-pair}
 

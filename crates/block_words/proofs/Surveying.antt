@@ -18,8 +18,8 @@ use Rattle.units.proofs.Tests.{by, clash, and-left, and-right}
 use Rattle.units.proofs.Ways.{said-true, said-false}
 use Rattle.units.proofs.Cases.{sound-true, sound-false}
 use Rattle.block_words.specs.Words.{capacity, pairs, clear, soundTable}
-use Rattle.block_words.specs.Tallies.{Ready, soundPairs}
-use Rattle.block_words.specs.Surveys.{entryOf, Rising, tidy, verdictNumber, surveyOf}
+use Rattle.block_words.specs.inner.Tallies.{Ready, soundPairs}
+use Rattle.block_words.specs.inner.Surveys.{entryOf, Rising, tidy, verdictNumber, surveyOf}
 use Rattle.block_words.specs.declared.Entry.{Entry}
 use Rattle.block_words.specs.declared.Verdict.{Verdict}
 use Rattle.block_words.proofs.Canonical.{canonical-apart}

@@ -17,7 +17,7 @@ use Rattle.units.proofs.Tests.{by, conj}
 use Rattle.units.proofs.Facts.{GoodArena, arena-facts}
 use Rattle.model.specs.Marks.{Range, size}
 use Rattle.block_words.specs.Words.{pairs}
-use Rattle.block_words.specs.Tallies.{behind, Ready, below, top, startOf, sweptBy, sweptAt, swept, verdictOf, soundPairs}
+use Rattle.block_words.specs.inner.Tallies.{behind, Ready, below, top, startOf, sweptBy, sweptAt, swept, verdictOf, soundPairs}
 use Rattle.block_words.specs.declared.sweep.Sweep.{Sweep}
 use Rattle.block_words.proofs.Ascending.{follows, sound, sound-range, sound-off, sound-on, sound-whole}
 use Rattle.block_words.proofs.Pairs.{pairs-at, pairs-end, all-behind}

@@ -20,7 +20,7 @@ use Rattle.units.proofs.Tests.{by}
 use Rattle.units.proofs.Alignments.{align-positive}
 use Rattle.units.proofs.Ways.{said-true, said-false}
 use Rattle.units.proofs.Facts.{GoodArena, arena-facts}
-use Rattle.block_words.specs.Tallies.{pairAt, Ready, below, top, startOf, sweptBy, verdictOf}
+use Rattle.block_words.specs.inner.Tallies.{pairAt, Ready, below, top, startOf, sweptBy, verdictOf}
 use Rattle.block_words.specs.declared.sweep.Sweep.{Sweep}
 
 -- a pair from its words

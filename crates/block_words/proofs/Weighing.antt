@@ -7,7 +7,7 @@ use native.Mathlib.Omega.{arith}
 use lib.Dec.{eqb, ltb}
 use lib.ListN.{getD}
 use borrow.Author.Tests.{ne-eqb, eqb-true, lt-ltb, le-ltb, ltb-true, ltb-false, not-true}
-use Rattle.units.specs.Aims.{none-range, length-of, isNone, takes}
+use Rattle.units.specs.inner.Aims.{none-range, length-of, isNone, takes}
 use Rattle.units.specs.declared.Range.{Range}
 use Rattle.units.specs.declared.Size.{Size}
 use Rattle.units.specs.declared.Which.{Which}
@@ -15,8 +15,8 @@ use Rattle.units.specs.declared.aims.Aim.{Aim}
 use Rattle.units.proofs.Tests.{by, tests, and-left}
 use Rattle.model.specs.Marks as marks
 use Rattle.block_words.specs.Words.{pairs}
-use Rattle.block_words.specs.Tallies.{pairAt, behind}
-use Rattle.block_words.specs.Surveys.{entry, entryAt, entered, entryOf, Rising}
+use Rattle.block_words.specs.inner.Tallies.{pairAt, behind}
+use Rattle.block_words.specs.inner.Surveys.{entry, entryAt, entered, entryOf, Rising}
 use Rattle.block_words.specs.declared.Entry.{Entry}
 use Rattle.block_words.proofs.Pairs.{length-pairs, pairs-at, pairs-end, all-behind}
 use Rattle.block_words.proofs.Seeking.{rising-inside, rising-order, pair-order, pair-above}

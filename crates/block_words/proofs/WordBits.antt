@@ -7,7 +7,7 @@ use lib.Bits.{bitAnd, bitOr, and-shr, or-add-and, and-le-l, and-le-r, or-zero-l}
 use lib.Dec.{eqb, ltb, leb}
 use borrow.Author.Tests.{ne-eqb, le-leb, lt-leb, ltb-true, ltb-false, leb-true, leb-false, eqb-true, eqb-false}
 use Rattle.units.proofs.Tests.{by}
-use Rattle.block_words.specs.Tallies.{below, top}
+use Rattle.block_words.specs.inner.Tallies.{below, top}
 
 -- a difference is a word
 pub below-word : (x y : ℕ) → below x y < 18446744073709551616

@@ -1,3 +1,2 @@
 pub mod Words
-pub mod Tallies
-pub mod Surveys
+pub mod inner

@@ -16,8 +16,8 @@ ghost use Prim.Native.Nat.{_*_, _/_, _≤_, _<_};
 ghost use lib.ListN.{length, drop};
 ghost use Rattle.units.specs.Rules.{soundnessOf};
 ghost use Rattle.block_words.specs.Words.{clear, soundTable};
-ghost use Rattle.block_words.specs.Tallies.{pairAt, Ready};
-ghost use Rattle.block_words.specs.Surveys.{tidy, surveyOf};
+ghost use Rattle.block_words.specs.inner.Tallies.{pairAt, Ready};
+ghost use Rattle.block_words.specs.inner.Surveys.{tidy, surveyOf};
 
 // A range of the table and its number. Where there is none: (0, 0), and the number of ranges.
 pub struct Entry {

@@ -11,7 +11,7 @@ ghost use lib.ListN.{length};
 ghost use Rattle.units.specs.declared.Which.{Which};
 ghost use Rattle.units.specs.declared.aims.Aim.{Aim};
 ghost use Rattle.block_words.specs.Words.{pairs};
-ghost use Rattle.block_words.specs.Surveys.{entryAt, entryOf, Ordered, Rising, Spot};
+ghost use Rattle.block_words.specs.inner.Surveys.{entryAt, entryOf, Ordered, Rising, Spot};
 
 // The number of the first of n ranges that reaches an address, or n, by halving.
 pub fn spot(words: &[u64], n: usize, x: Addr) -> usize

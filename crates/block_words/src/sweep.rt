@@ -8,7 +8,7 @@ ghost use mathlib.Core.Path.{_≡_};
 ghost use Prim.Native.Nat.{_/_, _≤_, _<_};
 ghost use lib.ListN.{length};
 ghost use Rattle.units.specs.Rules.{soundnessOf};
-ghost use Rattle.block_words.specs.Tallies.{Ready, below, startOf, sweptAt, verdictOf, soundPairs};
+ghost use Rattle.block_words.specs.inner.Tallies.{Ready, below, startOf, sweptAt, verdictOf, soundPairs};
 
 // Where a sweep stands: the number of pairs met, the limit of the last, a number whose top bit is set exactly if all words
 // ascend, all words OR-ed, and their bytes. The numbers are modulo 2^64.

@@ -9,8 +9,8 @@ use Rattle.units.specs.declared.Range.{Range}
 use Rattle.units.specs.declared.Which.{Which}
 use Rattle.units.specs.declared.aims.Aim.{Aim}
 use Rattle.pair_model.specs.Pairs.{both}
-use Rattle.pair.specs.Calls.{lands, PairDone, found, foundOf, foundNone}
-use Rattle.pair.specs.Parts.{setUp, sound, checkOf}
+use Rattle.pair.specs.Calls.{lands, PairDone, found, foundOf, setUp, sound}
+use Rattle.pair.specs.inner.Parts.{checkOf, foundNone}
 use Rattle.pair.specs.declared.Found.{Found}
 use Rattle.pair.specs.declared.Pair.{Pair}
 use Rattle.pair.specs.declared.PairCheck.{PairCheck}

@@ -3,8 +3,7 @@ use Prim.Native.Nat.{ℕ}
 use mathlib.Core.List.{List}
 use Rattle.units.specs.declared.Which.{Which}
 use Rattle.pair_model.specs.Pairs.{both}
-use Rattle.pair.specs.Calls.{lands, PairDone, found}
-use Rattle.pair.specs.Parts.{setUp, sound}
+use Rattle.pair.specs.Calls.{lands, PairDone, found, setUp, sound}
 use Rattle.pair.specs.declared.Pair.{Pair}
 use Rattle.pair.specs.declared.PairCheck.{PairCheck}
 use Rattle.capi.specs.Modes.{givenMode, unknownMode, withMode}

@@ -12,8 +12,8 @@ use units::Range;
 use units::Size;
 ghost use mathlib.Core.Path.{_≡_};
 ghost use Rattle.units.specs.declared.Which.{Which};
-ghost use Rattle.pair.specs.Calls.{inserted, deleted, changed, foundOf, foundNone};
-ghost use Rattle.pair.specs.Parts.{setUp, sound};
+ghost use Rattle.pair.specs.inner.Parts.{foundNone};
+ghost use Rattle.pair.specs.Calls.{inserted, deleted, changed, foundOf, setUp, sound};
 ghost use Rattle.capi.specs.Modes.{unknownMode};
 ghost use Rattle.capi_pair.specs.PairFinds.{foundBy, modeAnswer};
 

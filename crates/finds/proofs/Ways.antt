@@ -8,7 +8,7 @@ use Rattle.units.specs.declared.Range.{Range}
 use Rattle.units.specs.declared.Size.{Size}
 use Rattle.units.specs.declared.Which.{Which}
 use Rattle.model.specs.Marks.{struct, plain}
-use Rattle.model.specs.Steps.{end-part, part}
+use Rattle.model.specs.inner.Steps.{end-part, part}
 
 module _ (mode : Mode) (n : Size) (here : Range) where
   pub end-none : mode ≡ Mode.None → here ≡ struct (end-part mode (n .0) (plain here))

@@ -8,8 +8,8 @@ use units::Size;
 use units::Which;
 ghost use mathlib.Core.Path.{_≡_};
 ghost use Rattle.model.specs.Marks.{struct, plain};
-ghost use Rattle.model.specs.Steps.{end-part, part};
-ghost use Rattle.finds.specs.Parts.{Within};
+ghost use Rattle.model.specs.inner.Steps.{end-part, part};
+ghost use Rattle.finds.specs.inner.Parts.{Within};
 
 // The part of a range that a mode finds.
 fn end_part(mode: Mode, size: Size, here: Range) -> Range

@@ -11,25 +11,24 @@ use Rattle.units.specs.declared.Size.{Size}
 use Rattle.units.specs.declared.rules.Arena as units
 use Rattle.units.proofs.Facts.{arena-facts}
 use Rattle.units.proofs.Tests.{and-left}
-use Rattle.model.specs.Marks.{Range}
-use Rattle.model.specs.Lists.{total}
+use Rattle.model.specs.Marks.{Range, total}
 use Rattle.model.specs.Calls.{Arena}
 use Rattle.model.specs.Flushing.{Flush, flush}
 use Rattle.model.proofs.Places.{total-append}
 use Rattle.model.proofs.Totals.{total-small}
 use Rattle.list_words.specs.Words.{isClean, soundWalk}
 use Rattle.list_words.specs.Laying.{head-of}
-use Rattle.list_words.specs.Surveys.{walkOf}
+use Rattle.list_words.specs.inner.Surveys.{walkOf}
 use Rattle.block_words.specs.Words.{fill}
 use Rattle.block_words.proofs.Canonical.{apart-canonical}
 use Rattle.list_land.specs.Layout as list
-use Rattle.list_land.specs.Parts as list-parts
+use Rattle.list_land.specs.inner.Parts as list-parts
 use Rattle.list_land.specs.declared.ListLand.{ListLand}
 use Rattle.block_land.specs.Layout as block
-use Rattle.block_land.specs.Parts as block-parts
+use Rattle.block_land.specs.inner.Parts as block-parts
 use Rattle.block_land.specs.declared.BlockLand.{BlockLand}
 use Rattle.flush.specs.Flush.{refusal, checkOf, moves, done, flushed}
-use Rattle.transfers.specs.Transfers.{Going, tableArena, flushOf, transferOf, transferWords}
+use Rattle.transfers.specs.inner.Transfers.{Going, tableArena, flushOf, transferOf, transferWords}
 use Rattle.flush.specs.declared.FlushCheck.{FlushCheck}
 use Rattle.flush.specs.declared.Flushed.{Flushed}
 use Rattle.transfers.specs.declared.Moved.{Moved}

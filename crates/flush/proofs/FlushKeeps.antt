@@ -9,10 +9,10 @@ use lib.ListN.{length, length-append}
 use borrow.Author.Tests.{le-leb, leb-true, eqb-true}
 use Rattle.units.proofs.Tests.{by, and-left, and-right}
 use Rattle.model.specs.Marks.{Range}
-use Rattle.model.specs.Lists.{Apart, Aligned}
+use Rattle.model.specs.inner.Lists.{Apart, Aligned}
 use Rattle.model.specs.Calls.{Arena}
 use Rattle.model.specs.Layouts.{holding}
-use Rattle.model.specs.Lands.{Fine}
+use Rattle.model.specs.inner.Laws.{Fine}
 use Rattle.model.specs.Flushing.{flush, unlimited, Flushes}
 use Rattle.model.proofs.Flushing.{flushes}
 use Rattle.list_words.proofs.Laid.{Laid, laid-rest, lay-laid}

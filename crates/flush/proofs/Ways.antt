@@ -17,12 +17,12 @@ use Rattle.units.proofs.Cases.{set-up-true, set-up-false}
 use Rattle.units.proofs.Tests.{by}
 use Rattle.list_words.specs.declared.Spot.{Spot}
 use Rattle.list_land.specs.Layout as list
-use Rattle.list_land.specs.Parts as list-parts
+use Rattle.list_land.specs.inner.Parts as list-parts
 use Rattle.list_land.specs.declared.ListLand.{ListLand}
 use Rattle.list_land.specs.declared.Look as list-look
 use Rattle.list_land.proofs.Look as list-look-type
 use Rattle.block_land.specs.Layout as block
-use Rattle.block_land.specs.Parts as block-parts
+use Rattle.block_land.specs.inner.Parts as block-parts
 use Rattle.block_land.specs.declared.BlockLand.{BlockLand}
 use Rattle.block_land.specs.declared.Look as block-look
 use Rattle.block_land.proofs.Look as block-look-type

@@ -9,7 +9,7 @@ use lib.Dec.{eqb, leb, ltb}
 use borrow.Author.Tests.{eq-eqb, eqb-true, le-leb, lt-leb}
 use Rattle.units.proofs.Tests.{by, clash, and-left, and-right}
 use Rattle.lines.specs.Requests.{word-limit, every, is-digit, number, same, value-from}
-use Rattle.lines.specs.Reading.{is-letter, as-name, as-number, name-with, number-with, pack-from, is-packed, name-in, number-in}
+use Rattle.lines.specs.inner.Reading.{is-letter, as-name, as-number, name-with, number-with, pack-from, is-packed, name-in, number-in}
 use Rattle.lines.specs.declared.Field.{Field}
 use Rattle.lines.specs.declared.Grown.{Grown}
 use Rattle.lines.proofs.Numerals.{grown-all, named, counted, read-name, read-number}

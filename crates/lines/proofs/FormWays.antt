@@ -19,8 +19,8 @@ use Rattle.units.specs.declared.Which.{Which}
 use Rattle.lines.specs.Names.{walk-name, describe-name}
 use Rattle.lines.specs.Names.{none-name, low-name, high-name, entire-name}
 use Rattle.lines.specs.Requests.{request-of, mode-of, range-form, find-form, arena-form}
-use Rattle.lines.specs.Reading.{is-packed, name-in, number-in}
-use Rattle.lines.specs.Parts.{boundsOf, endingOf}
+use Rattle.lines.specs.inner.Reading.{is-packed, name-in, number-in}
+use Rattle.lines.specs.inner.Parts.{boundsOf, endingOf}
 use Rattle.lines.specs.declared.Field.{Field}
 use Rattle.lines.specs.declared.Request.{Request}
 use Rattle.lines.specs.declared.forms.Bounds.{Bounds}

@@ -5,7 +5,7 @@ use mathlib.Core.Path.{_≡_}
 use Rattle.units.specs.declared.Which.{Which}
 use Rattle.lines.specs.Names.{arena-name, insert-name, delete-name, first-name, last-name, largest-name}
 use Rattle.lines.specs.Requests.{request-of, mode-of, range-form, find-form, arena-form}
-use Rattle.lines.specs.Reading.{name-in, number-in, fields-in}
+use Rattle.lines.specs.inner.Reading.{name-in, number-in, fields-in}
 use Rattle.lines.specs.declared.Field.{Field}
 use Rattle.lines.specs.declared.Line.{Line}
 use Rattle.lines.specs.declared.Request.{Request}

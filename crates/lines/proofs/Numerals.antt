@@ -9,7 +9,7 @@ use lib.Dec.{ltb}
 use borrow.Author.Tests.{lt-ltb, le-ltb}
 use Rattle.units.proofs.Tests.{by, tests}
 use Rattle.lines.specs.Requests.{word-limit, every, is-digit, value-from}
-use Rattle.lines.specs.Reading.{is-letter, with-digit, as-name, as-number, grown, pack-from}
+use Rattle.lines.specs.inner.Reading.{is-letter, with-digit, as-name, as-number, grown, pack-from}
 use Rattle.lines.specs.declared.Field.{Field}
 use Rattle.lines.specs.declared.Grown.{Grown}
 

@@ -8,7 +8,7 @@ use lib.Dec.{eqb}
 use borrow.Author.Tests.{eq-eqb, eqb-true}
 use Rattle.units.proofs.Tests.{and-left, and-right, conj, clash}
 use Rattle.lines.specs.Requests.{every, same}
-use Rattle.lines.specs.Reading.{is-letter, pack-from}
+use Rattle.lines.specs.inner.Reading.{is-letter, pack-from}
 
 -- the last letter first
 abbrev packed : List ℕ → ℕ

@@ -7,7 +7,7 @@ use lib.Dec.{eqb}
 use borrow.Author.Tests.{not-true}
 use Rattle.units.proofs.Tests.{and-left, and-right}
 use Rattle.lines.specs.Requests.{newline, onto, parted, split, every}
-use Rattle.lines.specs.Reading.{in-line}
+use Rattle.lines.specs.inner.Reading.{in-line}
 
 -- a list of one piece or more
 pub record Some (ps : List (List ℕ)) : Type 0 where

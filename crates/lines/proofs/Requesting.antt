@@ -8,7 +8,7 @@ use Rattle.units.proofs.Tests.{by}
 use Rattle.lines.specs.Names.{arena-name, insert-name, delete-name, first-name, last-name, largest-name, walk-name, describe-name}
 use Rattle.lines.specs.Names.{none-name, low-name, high-name, entire-name}
 use Rattle.lines.specs.Requests.{space, onto, parted, split, number, same, mode-of, request-of, parse}
-use Rattle.lines.specs.Reading.{grown, with-field, at-start, next-of, read-more, name-in, number-in, fields-in, request-in}
+use Rattle.lines.specs.inner.Reading.{grown, with-field, at-start, next-of, read-more, name-in, number-in, fields-in, request-in}
 use Rattle.lines.specs.declared.Field.{Field}
 use Rattle.lines.specs.declared.Line.{Line}
 use Rattle.lines.specs.declared.Reader.{Reader}

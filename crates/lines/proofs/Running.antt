@@ -10,7 +10,7 @@ use lib.Seq.{take-suc, getD-drop}
 use borrow.Author.Tests.{ne-eqb}
 use Rattle.units.proofs.Tests.{by}
 use Rattle.lines.specs.Requests.{word-limit, is-digit, every}
-use Rattle.lines.specs.Reading.{grown, with-field, at-start, next-of, read-more, no-field, no-byte, begun-in, in-line, is-letter, name-with, number-with, ReadTo}
+use Rattle.lines.specs.inner.Reading.{grown, with-field, at-start, next-of, read-more, no-field, no-byte, begun-in, in-line, is-letter, name-with, number-with, ReadTo}
 use Rattle.lines.specs.declared.Field.{Field}
 use Rattle.lines.specs.declared.Line.{Line}
 use Rattle.lines.specs.declared.Reader.{Reader}

@@ -12,7 +12,7 @@ use denote.Enum.Declared.{tagOf}
 use Rattle.units.proofs.Tests.{conj}
 use Rattle.units.proofs.Ways.{said-true, said-false}
 use Rattle.lines.specs.Requests.{word-limit, is-digit}
-use Rattle.lines.specs.Reading.{is-letter, with-digit, name-with, number-with, grown, with-field, next-of, begun-in}
+use Rattle.lines.specs.inner.Reading.{is-letter, with-digit, name-with, number-with, grown, with-field, next-of, begun-in}
 use Rattle.lines.specs.declared.Field.{Field}
 use Rattle.lines.specs.declared.Grown.{Grown}
 use Rattle.lines.specs.declared.Line.{Line}

@@ -11,8 +11,8 @@ use units::Which;
 ghost use mathlib.Core.Path.{_≡_};
 ghost use mathlib.Core.List.{[], _∷_};
 ghost use Rattle.lines.specs.Requests.{request-of, mode-of, range-form, find-form, arena-form};
-ghost use Rattle.lines.specs.Reading.{is-packed, name-in, number-in, fields-in};
-ghost use Rattle.lines.specs.Parts.{boundsOf, endingOf};
+ghost use Rattle.lines.specs.inner.Reading.{is-packed, name-in, number-in, fields-in};
+ghost use Rattle.lines.specs.inner.Parts.{boundsOf, endingOf};
 
 // The names, each byte of the number a letter.
 const ARENA: u64 = 0x6172656e61;

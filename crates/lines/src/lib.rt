@@ -13,7 +13,7 @@ ghost use mathlib.Core.Path.{_≡_};
 ghost use Prim.Native.Nat.{_≤_, _<_};
 ghost use lib.ListN.{length};
 ghost use Rattle.lines.specs.Requests.{is-digit};
-ghost use Rattle.lines.specs.Reading.{is-letter, with-digit, name-with, number-with, grown, with-field, at-start, next-of, request-in, begun-in, ReadTo};
+ghost use Rattle.lines.specs.inner.Reading.{is-letter, with-digit, name-with, number-with, grown, with-field, at-start, next-of, request-in, begun-in, ReadTo};
 
 // What the bytes of a field are: none yet, a name, a number, or neither. A name has at most eight letters, and stands as
 // a number to the base 256.

@@ -7,7 +7,7 @@ use native.Mathlib.Omega.{arith}
 use Rattle.units.specs.declared.Range as units
 use Rattle.model.specs.Marks.{Range, struct}
 use Rattle.list_words.specs.declared.Chain.{Chain}
-use Rattle.list_edits.specs.Chains.{chainOf, editedNumber, edited}
+use Rattle.list_edits.specs.inner.Chains.{chainOf, editedNumber, edited}
 use Rattle.list_edits.specs.declared.Edited.{Edited}
 
 -- an edit that was done

@@ -10,8 +10,8 @@ use Rattle.units.specs.declared.Range as units
 use Rattle.units.specs.Words.{addr, one, rangeOf}
 use Rattle.units.specs.declared.rules.Arena.{Arena}
 use Rattle.units.proofs.Alignments.{multiple-8}
-use Rattle.model.specs.Marks.{Range}
-use Rattle.model.specs.Lists.{Apart, total, holds, piece, delete-from}
+use Rattle.model.specs.Marks.{Range, total}
+use Rattle.model.specs.inner.Lists.{Apart, holds, piece, delete-from}
 use Rattle.model.proofs.Aiming.{pick-by}
 use Rattle.model.proofs.Best.{in-middle}
 use Rattle.model.proofs.Deleting.{delete-apart, delete-aligned}
@@ -19,13 +19,13 @@ use Rattle.model.proofs.Parts.{mem-stands}
 use Rattle.model.proofs.Places.{total-append, remains, delete-at, length-piece}
 use Rattle.model.proofs.Totals.{total-delete}
 use Rattle.list_words.specs.Laying.{head-of, lay}
-use Rattle.list_edits.specs.Edits.{EditRoom, storeHead, storeWords}
+use Rattle.list_edits.specs.inner.Edits.{EditRoom, storeHead, storeWords}
 use Rattle.list_words.specs.declared.Spot.{Spot}
 use Rattle.list_words.proofs.Laid.{Laid, laid-rest}
 use Rattle.list_words.proofs.Keeping.{At, Placed, kept-placed}
 use Rattle.list_edits.proofs.Editing.{edited, Stored, stored}
 use Rattle.list_words.specs.declared.Chain.{Chain}
-use Rattle.list_edits.specs.Chains.{metOf, Holding, remaining}
+use Rattle.list_edits.specs.inner.Chains.{metOf, Holding, remaining}
 use Rattle.list_edits.specs.declared.Edit.{Edit}
 use Rattle.list_edits.proofs.Sound.{Fine, fine, small}
 

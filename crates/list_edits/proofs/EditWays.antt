@@ -12,16 +12,16 @@ use Rattle.units.specs.declared.Size.{Size}
 use Rattle.units.specs.declared.aims.Aim.{Aim}
 use Rattle.units.specs.declared.rules.Arena.{Arena}
 use Rattle.units.proofs.Facts.{GoodRange, range-facts}
-use Rattle.model.specs.Lists.{overlaps}
+use Rattle.model.specs.inner.Lists.{overlaps}
 use Rattle.model.proofs.Places.{overlaps-front}
 use Rattle.model.proofs.Reaching.{reach, reach-none}
 use Rattle.list_words.proofs.Keeping.{Placed, none-there, kept-reach}
 use Rattle.list_words.specs.declared.Chain.{Chain}
 use Rattle.list_words.specs.declared.Spot.{Spot}
-use Rattle.list_edits.specs.Chains.{metOf, Held, mayAsk, Holding, joinedOf, joinedWords, putOf, putWords, cutChain, cutWords}
-use Rattle.list_edits.specs.Edits.{EditRoom, storeHead, storeWords}
-use Rattle.list_edits.specs.Joins.{joinEdit, Putting, joinDone}
-use Rattle.list_edits.specs.Places.{Placing, placeOf}
+use Rattle.list_edits.specs.inner.Chains.{metOf, Held, mayAsk, Holding, joinedOf, joinedWords, putOf, putWords, cutChain, cutWords}
+use Rattle.list_edits.specs.inner.Edits.{EditRoom, storeHead, storeWords}
+use Rattle.list_edits.specs.inner.Joins.{joinEdit, Putting, joinDone}
+use Rattle.list_edits.specs.inner.Places.{Placing, placeOf}
 use Rattle.list_edits.specs.declared.Edited.{Edited}
 use Rattle.list_edits.specs.declared.Join.{Join}
 use Rattle.list_edits.specs.declared.Joined.{Joined}

@@ -10,19 +10,19 @@ use Rattle.units.specs.Words.{addr, rangeOf}
 use Rattle.units.specs.declared.rules.Arena.{Arena}
 use Rattle.units.proofs.Tests.{clash}
 use Rattle.model.specs.Marks.{Range, struct}
-use Rattle.model.specs.Lists.{Apart, Aligned}
+use Rattle.model.specs.inner.Lists.{Apart, Aligned}
 use Rattle.model.proofs.Places.{apart-rest, aligned-rest}
-use Rattle.list_words.specs.Descriptors.{Standing}
+use Rattle.list_words.specs.inner.Descriptors.{Standing}
 use Rattle.list_words.specs.Laying.{head-of}
-use Rattle.list_words.specs.Surveys.{spot}
+use Rattle.list_words.specs.inner.Surveys.{spot}
 use Rattle.list_words.specs.declared.Chain.{Chain}
 use Rattle.list_words.specs.declared.Descriptor.{Descriptor}
 use Rattle.list_words.specs.declared.Spot.{Spot}
 use Rattle.list_words.proofs.Describing.{laid-read, laid-stands}
 use Rattle.list_words.proofs.Keeping.{At, Placed}
 use Rattle.list_words.proofs.Laid.{Laid, laid-rest}
-use Rattle.list_edits.specs.Chains.{metOf}
-use Rattle.list_edits.specs.Places.{Following, followingOf}
+use Rattle.list_edits.specs.inner.Chains.{metOf}
+use Rattle.list_edits.specs.inner.Places.{Following, followingOf}
 use Rattle.list_edits.proofs.Joining.{Above}
 use Rattle.list_edits.proofs.Sound.{Fine}
 

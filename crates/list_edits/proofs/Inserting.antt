@@ -11,20 +11,20 @@ use Rattle.units.specs.Words.{addr, rangeOf}
 use Rattle.units.specs.declared.rules.Arena.{Arena}
 use Rattle.units.proofs.Alignments.{multiple-8}
 use Rattle.units.proofs.Facts.{GoodRange}
-use Rattle.model.specs.Marks.{Range, struct, plain}
-use Rattle.model.specs.Lists.{total, overlaps, holder, insert-in}
+use Rattle.model.specs.Marks.{Range, struct, plain, total}
+use Rattle.model.specs.inner.Lists.{overlaps, holder, insert-in}
 use Rattle.model.proofs.Inserting.{insert-apart, insert-aligned}
 use Rattle.model.proofs.Places.{insert-front, overlaps-front, holder-front, holder-here}
 use Rattle.model.proofs.Totals.{total-insert}
 use Rattle.list_words.specs.Laying.{head-of, lay}
-use Rattle.list_edits.specs.Edits.{storeHead, storeWords}
+use Rattle.list_edits.specs.inner.Edits.{storeHead, storeWords}
 use Rattle.list_words.specs.declared.Spot.{Spot}
 use Rattle.list_words.proofs.Laid.{Laid}
 use Rattle.list_edits.proofs.Editing.{edited, Stored, stored}
 use Rattle.list_words.specs.declared.Chain.{Chain}
-use Rattle.list_edits.specs.Places.{joinOf, placeOf}
-use Rattle.list_edits.specs.Joins.{joinEdit, Putting, joinDone}
-use Rattle.list_edits.specs.Chains.{metOf, joinedOf}
+use Rattle.list_edits.specs.inner.Places.{joinOf, placeOf}
+use Rattle.list_edits.specs.inner.Joins.{joinEdit, Putting, joinDone}
+use Rattle.list_edits.specs.inner.Chains.{metOf, joinedOf}
 use Rattle.list_edits.specs.declared.Join.{Join}
 use Rattle.list_edits.proofs.Sound.{Fine, small}
 use Rattle.list_edits.proofs.Joining.{Joined, joins-free, joins-meets}

@@ -9,15 +9,15 @@ use lib.ListN.{length}
 use borrow.Author.Tests.{ne-eqb, lt-ltb, eqb-true}
 use Rattle.units.specs.Words.{rangeOf, addr}
 use Rattle.units.specs.declared.Range as units
-use Rattle.units.specs.Aims.{isNone, none-range}
+use Rattle.units.specs.inner.Aims.{isNone, none-range}
 use Rattle.units.proofs.Tests.{by, clash, tests}
-use Rattle.model.specs.Marks.{Range, size, struct, plain}
-use Rattle.model.specs.Lists.{Apart, total, overlaps, insert-in}
+use Rattle.model.specs.Marks.{Range, size, struct, plain, total}
+use Rattle.model.specs.inner.Lists.{Apart, overlaps, insert-in}
 use Rattle.model.proofs.Places.{overlaps-above, insert-apart-of, insert-join}
 use Rattle.list_words.specs.Laying.{head-of}
 use Rattle.list_words.specs.declared.Spot.{Spot}
 use Rattle.list_words.proofs.Laid.{Laid}
-use Rattle.list_edits.specs.Places.{joinOf}
+use Rattle.list_edits.specs.inner.Places.{joinOf}
 use Rattle.list_edits.specs.declared.Join.{Join}
 
 -- a spot at the first of some ranges, or behind the last

@@ -10,7 +10,7 @@ use borrow.Author.Tests.{eqb-false}
 use Rattle.units.specs.Words.{wordNumber}
 use Rattle.units.proofs.Tests.{by}
 use Rattle.model.specs.Marks.{Range, size}
-use Rattle.model.specs.Lists.{Apart, Aligned}
+use Rattle.model.specs.inner.Lists.{Apart, Aligned}
 use Rattle.list_words.specs.Laying.{head-of, grain, describe, lay}
 use Rattle.list_words.proofs.Laid.{Told, Laid, describe-told}
 

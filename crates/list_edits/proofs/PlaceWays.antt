@@ -8,12 +8,12 @@ use borrow.Author.Tests.{eqb-true}
 use Rattle.units.specs.Words.{rangeOf}
 use Rattle.units.specs.declared.Range.{Range}
 use Rattle.units.specs.declared.rules.Arena.{Arena}
-use Rattle.units.specs.Aims.{isNone, none-range}
-use Rattle.list_words.specs.Descriptors.{Standing, descriptorAt}
-use Rattle.list_words.specs.Surveys.{spot}
+use Rattle.units.specs.inner.Aims.{isNone, none-range}
+use Rattle.list_words.specs.inner.Descriptors.{Standing, descriptorAt}
+use Rattle.list_words.specs.inner.Surveys.{spot}
 use Rattle.list_words.specs.declared.Descriptor.{Descriptor}
 use Rattle.list_words.specs.declared.Spot.{Spot}
-use Rattle.list_edits.specs.Places.{Following, followingOf, placed, joinOf, Placing, placeOf}
+use Rattle.list_edits.specs.inner.Places.{Following, followingOf, placed, joinOf, Placing, placeOf}
 use Rattle.list_edits.specs.declared.Join.{Join}
 
 -- BEFORE THE RANGE ABOVE

@@ -11,14 +11,14 @@ use Rattle.units.specs.declared.Range as units
 use Rattle.units.specs.declared.aims.Aim.{Aim}
 use Rattle.units.specs.declared.rules.Arena.{Arena}
 use Rattle.units.proofs.Facts.{GoodRange, range-facts}
-use Rattle.model.specs.Lists.{holds, holder}
+use Rattle.model.specs.inner.Lists.{holds, holder}
 use Rattle.model.specs.Marks.{Range, struct}
 use Rattle.model.proofs.Places.{Before, apart-rest, holds-below, holder-below, holder-here, holds-above}
 use Rattle.model.proofs.Reaching.{reach, reach-none, reach-some}
 use Rattle.list_words.specs.declared.Chain.{Chain}
 use Rattle.list_words.specs.declared.Spot.{Spot}
 use Rattle.list_words.proofs.Keeping.{At, Placed, none-there, one-there, kept-reach}
-use Rattle.list_edits.specs.Chains.{metOf, Held, mayAsk, Holding, cutChain, cutWords, cutOf, cutOutWords}
+use Rattle.list_edits.specs.inner.Chains.{metOf, Held, mayAsk, Holding, cutChain, cutWords, cutOf, cutOutWords}
 use Rattle.list_edits.specs.declared.Edited.{Edited}
 use Rattle.list_edits.proofs.Sound.{Fine, fine}
 

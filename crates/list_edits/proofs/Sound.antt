@@ -11,15 +11,16 @@ use Rattle.units.specs.declared.rules.Arena.{Arena}
 use Rattle.units.proofs.Alignments.{multiple-8, align-positive}
 use Rattle.units.proofs.Facts.{GoodArena, arena-facts}
 use Rattle.units.proofs.Tests.{and-left, and-right}
-use Rattle.model.specs.Lists.{Apart, Aligned, total}
+use Rattle.model.specs.Marks.{total}
+use Rattle.model.specs.inner.Lists.{Apart, Aligned}
 use Rattle.model.proofs.Totals.{total-small, length-small}
 use Rattle.list_words.specs.Words.{isClean, walkFrom, soundWalk}
 use Rattle.list_words.specs.Laying.{head-of}
-use Rattle.list_words.specs.Surveys.{Ready, walkOf}
+use Rattle.list_words.specs.inner.Surveys.{Ready, walkOf}
 use Rattle.list_words.specs.declared.Chain.{Chain}
 use Rattle.list_words.proofs.Laid.{Laid}
 use Rattle.list_words.proofs.Meeting.{clean-case, walk-mets, aligned-8}
-use Rattle.list_edits.specs.Chains.{metOf}
+use Rattle.list_edits.specs.inner.Chains.{metOf}
 
 -- what a ready arena says of the numbers
 pub record Placed (a : Arena) (n : ℕ) : Type 0 where

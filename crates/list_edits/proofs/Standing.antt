@@ -13,16 +13,16 @@ use Rattle.units.specs.declared.Range as units
 use Rattle.units.specs.declared.aims.Aim.{Aim}
 use Rattle.units.specs.declared.rules.Arena.{Arena}
 use Rattle.units.proofs.Tests.{by, tests}
-use Rattle.model.specs.Marks.{Range}
-use Rattle.model.specs.Lists.{Apart, total, overlaps, insert-in}
+use Rattle.model.specs.Marks.{Range, total}
+use Rattle.model.specs.inner.Lists.{Apart, overlaps, insert-in}
 use Rattle.model.proofs.Places.{Before, apart-rest, insert-below}
 use Rattle.model.proofs.Reaching.{reach, reach-none, reach-some}
-use Rattle.list_edits.specs.Places.{followingOf, joinOf, placeOf}
+use Rattle.list_edits.specs.inner.Places.{followingOf, joinOf, placeOf}
 use Rattle.list_words.specs.declared.Spot.{Spot}
 use Rattle.list_words.proofs.Keeping.{Last, At, Behind, Placed, kept-reach}
 use Rattle.list_words.proofs.Laid.{Laid}
 use Rattle.list_words.specs.declared.Chain.{Chain}
-use Rattle.list_edits.specs.Chains.{metOf, Held}
+use Rattle.list_edits.specs.inner.Chains.{metOf, Held}
 use Rattle.list_edits.proofs.Joining.{Above, Over}
 use Rattle.list_edits.proofs.Following.{here, laid-here, follows}
 use Rattle.list_edits.proofs.Sound.{Fine}

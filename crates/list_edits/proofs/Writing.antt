@@ -13,7 +13,7 @@ use Rattle.units.specs.declared.Range.{Range}
 use Rattle.units.proofs.Ways.{said-true, said-false}
 use Rattle.model.specs.Marks.{rng, plain}
 use Rattle.list_words.specs.Laying.{describe}
-use Rattle.list_edits.specs.Edits.{Room, RoomOf, PieceRoom, pieceHead, pieceWords, upperHead, firstHead, EditRoom, storeHead, pieces, storeWords}
+use Rattle.list_edits.specs.inner.Edits.{Room, RoomOf, PieceRoom, pieceHead, pieceWords, upperHead, firstHead, EditRoom, storeHead, pieces, storeWords}
 use Rattle.list_edits.specs.declared.Edit.{Edit}
 
 -- a descriptor is laid: a grain's one word, or a block's two

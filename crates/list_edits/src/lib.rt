@@ -13,12 +13,12 @@ ghost use mathlib.Core.Bool.{true, false};
 ghost use mathlib.Core.Path.{_≡_};
 ghost use lib.ListN.{length};
 ghost use Rattle.model.specs.Marks.{rng};
-ghost use Rattle.model.specs.Lists.{overlaps};
+ghost use Rattle.model.specs.inner.Lists.{overlaps};
 ghost use Rattle.units.specs.declared.aims.Aim.{Aim};
 ghost use Rattle.list_words.specs.Laying.{describe};
-ghost use Rattle.list_edits.specs.Edits.{Room, PieceRoom, pieceHead, pieceWords, EditRoom, storeHead, storeWords};
-ghost use Rattle.list_edits.specs.Joins.{joinEdit, Putting, joinDone};
-ghost use Rattle.list_edits.specs.Chains.{metOf, Held, mayAsk, Holding, joinedOf, joinedWords, putOf, putWords, cutChain, cutWords, cutOf, cutOutWords};
+ghost use Rattle.list_edits.specs.inner.Edits.{Room, PieceRoom, pieceHead, pieceWords, EditRoom, storeHead, storeWords};
+ghost use Rattle.list_edits.specs.inner.Joins.{joinEdit, Putting, joinDone};
+ghost use Rattle.list_edits.specs.inner.Chains.{metOf, Held, mayAsk, Holding, joinedOf, joinedWords, putOf, putWords, cutChain, cutWords, cutOf, cutOutWords};
 
 // What is to stand behind a range: low, then high, each if it is not empty, then the range at next.
 pub struct Edit {

@@ -7,7 +7,7 @@ use units::Range;
 ghost use mathlib.Core.Bool.{false};
 ghost use mathlib.Core.Path.{_≡_};
 ghost use Prim.Native.Nat.{_≤_};
-ghost use Rattle.list_edits.specs.Places.{Following, followingOf, placed, joinOf, Placing, placeOf};
+ghost use Rattle.list_edits.specs.inner.Places.{Following, followingOf, placed, joinOf, Placing, placeOf};
 
 // A place where the range overlaps none.
 fn free(prev: Range, fresh: Range, next: Addr, joins: u64) -> Join

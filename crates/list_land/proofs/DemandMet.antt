@@ -8,8 +8,8 @@ use lib.Dec.{eqb}
 use borrow.Author.Tests.{eqb-true, eqb-false, not-true}
 use Rattle.units.specs.Words.{wordNumber}
 use Rattle.units.proofs.Tests.{by, clash, and-left, and-right, or-second}
-use Rattle.model.specs.Marks.{Range, size}
-use Rattle.model.specs.Lists.{Apart, Aligned, marksOf}
+use Rattle.model.specs.Marks.{Range, size, marksOf}
+use Rattle.model.specs.inner.Lists.{Apart, Aligned}
 use Rattle.model.specs.Layouts.{Reading, fault, holding}
 use Rattle.model.specs.Lands.{land-answers, list-rules}
 use Rattle.model.proofs.Bytes.{in-yes}

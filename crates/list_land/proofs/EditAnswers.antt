@@ -7,17 +7,16 @@ use Rattle.units.specs.declared.Range.{Range}
 use Rattle.units.specs.declared.aims.Aim.{Aim}
 use Rattle.units.specs.declared.rules.Arena.{Arena}
 use Rattle.model.specs.Calls.{Call, insert, delete, good-range}
-use Rattle.model.specs.Marks as marks
 use Rattle.model.proofs.EditAnswers as answers
 use Rattle.model.proofs.EditAnswers.{Edits, insert-edits, delete-edits}
 use Rattle.list_words.specs.declared.Spot.{Spot}
 use Rattle.list_words.specs.declared.Chain.{Chain}
-use Rattle.list_edits.specs.Chains.{metOf, Held, mayAsk, editedNumber, edited, editedWords, putOf, putWords, cutOf, cutOutWords}
+use Rattle.list_edits.specs.inner.Chains.{metOf, Held, mayAsk, editedNumber, edited, editedWords, putOf, putWords, cutOf, cutOutWords}
 use Rattle.list_edits.specs.declared.Edited.{Edited}
 use Rattle.list_edits.proofs.Answered.{edited-number, edited-refused, edited-done}
-use Rattle.list_land.specs.Calls.{does, inserted, deleted, changed, refusedBy}
+use Rattle.list_land.specs.Calls.{does, inserted, deleted, changed}
 use Rattle.list_land.specs.Layout.{base, arenaOf, walkOf}
-use Rattle.list_land.specs.Parts.{arenaIn, chainIn, closedWith, Looked, reachBase, reachLimit}
+use Rattle.list_land.specs.inner.Parts.{arenaIn, chainIn, closedWith, Looked, reachBase, reachLimit, refusedBy}
 use Rattle.list_land.specs.declared.Changed.{Changed}
 use Rattle.list_land.specs.declared.ListLand.{ListLand}
 use Rattle.list_land.proofs.Land.{list-land}

@@ -9,16 +9,16 @@ use Rattle.model.specs.Calls.{Call}
 use Rattle.model.specs.Lands.{land-call}
 use Rattle.model.specs.Layouts.{reading}
 use Rattle.model.specs.Marks.{Range}
-use Rattle.model.specs.Picks.{here-of}
+use Rattle.model.specs.inner.Picks.{here-of}
 use Rattle.model.proofs.Aiming.{pick-by}
 use Rattle.model.proofs.Land.{Land}
-use Rattle.list_words.specs.Surveys.{kept-of}
+use Rattle.list_words.specs.inner.Surveys.{kept-of}
 use Rattle.list_words.specs.declared.Spot.{Spot}
 use Rattle.list_words.proofs.Keeping.{Placed, kept-placed}
 use Rattle.list_words.proofs.Laid.{lay-laid}
 use Rattle.list_land.specs.Calls.{does}
 use Rattle.list_land.specs.Layout.{base, setUp, walkOf, sound, readOf, layout}
-use Rattle.list_land.specs.Parts.{arenaIn, lookNumber, lookOf}
+use Rattle.list_land.specs.inner.Parts.{arenaIn, lookNumber, lookOf}
 use Rattle.list_land.specs.declared.Changed.{Changed}
 use Rattle.list_land.specs.declared.Found.{Found}
 use Rattle.list_land.specs.declared.ListLand.{ListLand}

@@ -6,12 +6,11 @@ use mathlib.Core.Path.{_≡_, refl, sym, ap, subst, _∙_}
 use native.Mathlib.Omega.{arith}
 use lib.ListN.{length}
 use borrow.Author.Tests.{eq-eqb}
-use Rattle.units.proofs.Tests.{by}
 use Rattle.units.specs.Words.{addr}
-use Rattle.model.specs.Marks.{Range}
-use Rattle.model.specs.Lists.{Apart, Aligned, total}
+use Rattle.model.specs.Marks.{Range, total}
+use Rattle.model.specs.inner.Lists.{Apart, Aligned}
 use Rattle.model.specs.Layouts.{fault, holding}
-use Rattle.model.specs.Lands.{LandLaws}
+use Rattle.model.specs.inner.Laws.{LandLaws}
 use Rattle.model.proofs.Outcomes.{read-whole}
 use Rattle.list_words.specs.Words.{soundWalk, walkFrom}
 use Rattle.list_words.specs.Laying.{head-of, lay}

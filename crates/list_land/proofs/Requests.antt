@@ -7,10 +7,10 @@ use Rattle.units.specs.Rules.{goodAlign}
 use Rattle.units.specs.declared.rules.Arena.{Arena}
 use Rattle.units.specs.declared.aims.Aim.{Aim}
 use Rattle.model.specs.Marks.{Range}
-use Rattle.list_edits.specs.Chains.{Held, chainOf}
+use Rattle.list_edits.specs.inner.Chains.{Held, chainOf}
 use Rattle.list_words.specs.declared.Chain.{Chain}
 use Rattle.list_land.specs.Layout.{sound, closed}
-use Rattle.list_land.specs.Parts.{arenaIn, chainIn, closedWith, Looked}
+use Rattle.list_land.specs.inner.Parts.{arenaIn, chainIn, closedWith, Looked}
 use Rattle.list_land.specs.declared.ListLand.{ListLand}
 use Rattle.list_land.proofs.Sound.{Fine, fine, placed}
 use Rattle.list_words.specs.declared.Spot.{Spot}

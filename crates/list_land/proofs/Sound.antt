@@ -11,7 +11,7 @@ use Rattle.units.proofs.Cases.{good-case}
 use Rattle.units.proofs.Tests.{and-left, and-right}
 use Rattle.list_edits.proofs.Sound as edits
 use Rattle.list_land.specs.Layout.{base, limit, align, setUp, sound}
-use Rattle.list_land.specs.Parts.{arenaIn, chainIn}
+use Rattle.list_land.specs.inner.Parts.{arenaIn, chainIn}
 use Rattle.list_land.specs.declared.ListLand.{ListLand}
 
 -- what a good set-up says of the numbers

@@ -22,13 +22,13 @@ use Rattle.units.proofs.Cases.{bad-arena, set-up-true, set-up-false}
 use Rattle.units.proofs.Facts.{arena-facts}
 use Rattle.units.proofs.Tests.{by}
 use Rattle.units.proofs.rules.ArenaCheck as arena-type
-use Rattle.list_words.specs.Surveys.{Ready, kept-of, surveyOf}
+use Rattle.list_words.specs.inner.Surveys.{Ready, kept-of, surveyOf}
 use Rattle.list_words.specs.declared.Chain.{Chain}
 use Rattle.list_words.specs.declared.Spot.{Spot}
 use Rattle.list_words.specs.declared.Verdict.{Verdict}
-use Rattle.list_land.specs.Calls.{refusedBy, foundNone, newLand, openedOf}
+use Rattle.list_land.specs.Calls.{newLand, openedOf}
 use Rattle.list_land.specs.Layout.{base, limit, align, setUp, walkOf, sound}
-use Rattle.list_land.specs.Parts.{arenaIn, chainIn, lookOf, Looked}
+use Rattle.list_land.specs.inner.Parts.{arenaIn, chainIn, lookOf, Looked, refusedBy, foundNone}
 use Rattle.list_land.specs.declared.ListLand.{ListLand}
 use Rattle.list_land.specs.declared.Look.{Look}
 use Rattle.list_land.proofs.Sound.{placed}

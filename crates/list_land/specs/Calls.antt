@@ -3,7 +3,7 @@ use Prim.Native.Nat.{ℕ}
 use mathlib.Core.Bool.{cond}
 use mathlib.Core.List.{List}
 use Rattle.units.specs.Rules.{setUpNumber}
-use Rattle.units.specs.Words.{rangeOf, addr}
+use Rattle.units.specs.Words.{addr}
 use Rattle.units.specs.declared.Mode.{Mode}
 use Rattle.units.specs.declared.Range.{Range}
 use Rattle.units.specs.declared.Which.{Which}
@@ -56,9 +56,3 @@ openedOf b l a ws =
     (record { land = newLand b l a; answer = 0 })
     (record { land = newLand 0 0 0; answer = setUpNumber SetUp.Bad })
 
--- A refusal: the handle given and ranges (0, 0).
-abbrev pub refusedBy : ListLand → ℕ → Changed
-refusedBy h n = record { land = h; answer = n; range = rangeOf 0 0 }
-
-abbrev pub foundNone : ListLand → ℕ → Found
-foundNone h n = record { land = h; answer = n; range = rangeOf 0 0; old = rangeOf 0 0 }

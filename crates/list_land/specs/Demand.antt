@@ -5,8 +5,7 @@ use mathlib.Core.List.{List}
 use mathlib.Core.Option.{none}
 use mathlib.Core.Path.{_≡_}
 use lib.ListN.{length, getD}
-use Rattle.model.specs.Marks.{Range, none-marked}
-use Rattle.model.specs.Lists.{marksOf}
+use Rattle.model.specs.Marks.{Range, none-marked, marksOf}
 use Rattle.model.specs.Calls.{Call, Outcome}
 use Rattle.model.specs.Layouts.{holding, with-host}
 use Rattle.model.specs.Histories.{Seen}

@@ -8,8 +8,7 @@ use lib.Dec.{eqb}
 use lib.ListN.{length, getD}
 use Rattle.units.specs.Rules.{arenaCheck, goodArena}
 use Rattle.units.specs.Words.{wordNumber, addr}
-use Rattle.model.specs.Marks.{Range}
-use Rattle.model.specs.Lists.{total}
+use Rattle.model.specs.Marks.{Range, total}
 use Rattle.model.specs.Calls.{Arena}
 use Rattle.model.specs.Layouts.{Reading, fault, holding, reading}
 use Rattle.model.specs.Lands.{LandLayout}

@@ -1,5 +1,5 @@
 pub mod Layout
 pub mod Calls
-pub mod Parts
 pub mod Right
 pub mod Demand
+pub mod inner

@@ -10,7 +10,7 @@ use units::Range;
 use units::RangeCheck;
 ghost use mathlib.Core.Path.{_≡_};
 ghost use Rattle.list_land.specs.Calls.{changed, deleted};
-ghost use Rattle.list_land.specs.Parts.{Looked, reachLimit};
+ghost use Rattle.list_land.specs.inner.Parts.{Looked, reachLimit};
 
 impl ListLand {
     // Delete from a sound list, at the first range that reaches the limit of the request.

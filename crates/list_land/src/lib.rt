@@ -21,8 +21,8 @@ ghost use mathlib.Core.Bool.{true};
 ghost use mathlib.Core.Path.{_≡_};
 ghost use Rattle.units.specs.Rules.{goodAlign, setUpOf};
 ghost use Rattle.list_land.specs.Layout.{setUp};
-ghost use Rattle.list_land.specs.Calls.{refusedBy, changed, walked, openedOf};
-ghost use Rattle.list_land.specs.Parts.{arenaIn, chainIn, lookNumber, lookOf, closedWith};
+ghost use Rattle.list_land.specs.Calls.{changed, walked, openedOf};
+ghost use Rattle.list_land.specs.inner.Parts.{arenaIn, chainIn, lookNumber, lookOf, closedWith, refusedBy};
 
 // The handle of a list land: its arena, the first range's base (or 0), the number of ranges and of free bytes.
 #[repr(C)]

@@ -9,7 +9,7 @@ ghost use mathlib.Core.Path.{_≡_};
 ghost use lib.ListN.{length};
 ghost use Rattle.units.specs.Rules.{soundnessOf};
 ghost use Rattle.list_words.specs.Words.{soundWalk};
-ghost use Rattle.list_words.specs.Surveys.{Ready, Along, Near, startAt, onward, countsOf, walkOf};
+ghost use Rattle.list_words.specs.inner.Surveys.{Ready, Along, Near, startAt, onward, countsOf, walkOf};
 
 // Where a walk stands: the lowest base that may come, the base that comes, the ranges and bytes met.
 pub struct Cursor {

@@ -16,11 +16,11 @@ use units::Soundness;
 ghost use mathlib.Core.Path.{_≡_};
 ghost use Prim.Native.Nat.{_≤_};
 ghost use lib.ListN.{length};
-ghost use Rattle.units.specs.Aims.{none-range};
+ghost use Rattle.units.specs.inner.Aims.{none-range};
 ghost use Rattle.units.specs.Words.{addr};
 ghost use Rattle.list_words.specs.Words.{stepAt};
-ghost use Rattle.list_words.specs.Descriptors.{Standing, descriptorAt};
-ghost use Rattle.list_words.specs.Surveys.{Ready, spot, at-end, surveyOf};
+ghost use Rattle.list_words.specs.inner.Descriptors.{Standing, descriptorAt};
+ghost use Rattle.list_words.specs.inner.Surveys.{Ready, spot, at-end, surveyOf};
 
 // What the words say of a range at an address: its limit and the next range's base, or what is at fault.
 pub enum Met {

@@ -9,7 +9,7 @@ use borrow.Author.Tests.{ne-eqb}
 use Rattle.units.specs.declared.Range as units
 use Rattle.units.proofs.Tests.{clash}
 use Rattle.model.specs.Marks.{Range, struct}
-use Rattle.model.specs.Picks.{here-of}
+use Rattle.model.specs.inner.Picks.{here-of}
 
 pub record Choice (o : Option Range) (r : units.Range) : Type 0 where
   pub range : Range

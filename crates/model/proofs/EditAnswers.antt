@@ -2,17 +2,17 @@
 use Prim.Native.Nat.{ℕ}
 use mathlib.Core.Bool.{Bool, true, false, not, cond}
 use mathlib.Core.List.{List}
-use mathlib.Core.Path.{_≡_, refl, sym, _∙_}
+use mathlib.Core.Path.{_≡_, refl}
 use lib.ListN.{length}
 use borrow.Author.Tests.{not-true, not-false}
-use Rattle.units.specs.Aims.{none-range}
+use Rattle.units.specs.inner.Aims.{none-range}
 use Rattle.units.specs.declared.Range as units
 use Rattle.units.specs.declared.aims.Aim.{Aim}
 use Rattle.units.proofs.Tests.{by}
-use Rattle.model.specs.Calls.{Arena, Call, Step, insert, delete, refused, accepted, good-range}
-use Rattle.model.specs.Lists.{overlaps, holds, holder, insert-in, delete-from}
+use Rattle.model.specs.Calls.{Arena, Call, insert, delete, refused, accepted, good-range}
+use Rattle.model.specs.inner.Lists.{overlaps, holds, holder, insert-in, delete-from}
 use Rattle.model.specs.Marks.{Range, rng, struct}
-use Rattle.model.specs.Steps.{list-ops, fits, step}
+use Rattle.model.specs.inner.Steps.{list-ops, fits, step}
 use Rattle.model.proofs.Land.{Land}
 use Rattle.model.proofs.Looking.{Kept, Changes, saw-5, saw-6, refused-change, step-refused, step-done, done-change}
 use Rattle.model.proofs.Requests.{range-refused}

@@ -10,7 +10,7 @@ use lib.ListN.{length}
 use types.Run.{OneOf}
 use borrow.Author.Tests.{leb-true, le-leb}
 use denote.Enum.Declared.{tagOf}
-use Rattle.units.specs.Aims.{none-range, findAim}
+use Rattle.units.specs.inner.Aims.{none-range, findAim}
 use Rattle.units.specs.Rules.{findCheck, findSize, setUpOf}
 use Rattle.units.specs.declared.Mode.{Mode}
 use Rattle.units.specs.declared.Range as units
@@ -24,10 +24,10 @@ use Rattle.units.proofs.Cases.{set-up-false}
 use Rattle.units.proofs.Mode as mode-type
 use Rattle.units.proofs.rules.SizeCheck as size-type
 use Rattle.model.specs.Calls.{Call, find, good-size, find-size}
-use Rattle.model.specs.Lists.{delete-from}
+use Rattle.model.specs.inner.Lists.{delete-from}
 use Rattle.model.specs.Marks.{Range, struct, plain}
-use Rattle.model.specs.Picks.{here-of}
-use Rattle.model.specs.Steps.{choose, part, fits}
+use Rattle.model.specs.inner.Picks.{here-of}
+use Rattle.model.specs.inner.Steps.{choose, part, fits}
 use Rattle.model.proofs.Aiming.{by-find}
 use Rattle.model.proofs.Bytes.{mem-proper}
 use Rattle.model.proofs.Checks.{size-bad, size-good}

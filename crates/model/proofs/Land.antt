@@ -8,11 +8,12 @@ use Rattle.units.specs.declared.Range as units
 use Rattle.units.specs.declared.aims.Aim.{Aim}
 use Rattle.units.specs.declared.rules.Arena as units-arena
 use Rattle.model.specs.Calls.{Call, Outcome}
-use Rattle.model.specs.Lands.{LandLayout, LandLaws, land-call}
+use Rattle.model.specs.inner.Laws.{LandLaws}
+use Rattle.model.specs.Lands.{LandLayout, land-call}
 use Rattle.model.specs.Layouts.{reading, Done}
-use Rattle.model.specs.Lists.{Apart}
+use Rattle.model.specs.inner.Lists.{Apart}
 use Rattle.model.specs.Marks.{Range}
-use Rattle.model.specs.Picks.{here-of}
+use Rattle.model.specs.inner.Picks.{here-of}
 use Rattle.model.proofs.Aiming.{pick-by}
 use Rattle.model.proofs.Checks.{arena-struct}
 

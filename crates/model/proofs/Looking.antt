@@ -6,17 +6,17 @@ use mathlib.Core.Option.{none}
 use mathlib.Core.Path.{_≡_, refl, sym, ap, _∙_}
 use native.Mathlib.Omega.{arith}
 use lib.Dec.{eqb}
-use Rattle.units.specs.Aims.{none-range}
+use Rattle.units.specs.inner.Aims.{none-range}
 use Rattle.units.specs.declared.Range as units
 use Rattle.units.specs.declared.aims.Aim.{Aim}
 use Rattle.model.specs.Calls.{Call, Outcome, refused, accepted}
-use Rattle.model.specs.Lands.{Fine}
-use Rattle.model.specs.Layouts.{fault, holding, reading, Done}
-use Rattle.model.specs.Lists.{Mem}
-use Rattle.model.specs.Looks.{Looked}
+use Rattle.model.specs.inner.Laws.{Fine}
+use Rattle.model.specs.Layouts.{holding, reading, Done}
+use Rattle.model.specs.inner.Lists.{Mem}
+use Rattle.model.specs.inner.Looks.{Looked}
 use Rattle.model.specs.Marks.{Range, struct}
-use Rattle.model.specs.Picks.{here-of}
-use Rattle.model.specs.Steps.{list-ops, step}
+use Rattle.model.specs.inner.Picks.{here-of}
+use Rattle.model.specs.inner.Steps.{list-ops, step}
 use Rattle.model.proofs.Aiming.{pick-by}
 use Rattle.model.proofs.Bytes.{mem-from}
 use Rattle.model.proofs.Land.{Land}

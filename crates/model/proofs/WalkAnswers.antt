@@ -4,14 +4,14 @@ use mathlib.Core.Bool.{Bool, true, false}
 use mathlib.Core.List.{List}
 use mathlib.Core.Path.{_≡_, refl, sym, ap, _∙_}
 use lib.Dec.{eqb}
-use Rattle.units.specs.Aims.{none-range}
+use Rattle.units.specs.inner.Aims.{none-range}
 use Rattle.units.specs.declared.Addr.{Addr}
 use Rattle.units.specs.declared.aims.Aim.{Aim}
 use Rattle.model.specs.Calls.{Outcome, walk}
 use Rattle.model.specs.Layouts.{Done}
 use Rattle.model.specs.Marks.{Range, rng}
-use Rattle.model.specs.Picks.{here-of}
-use Rattle.model.specs.Steps.{next-from}
+use Rattle.model.specs.inner.Picks.{here-of}
+use Rattle.model.specs.inner.Steps.{next-from}
 use Rattle.model.proofs.Aiming.{by-from}
 use Rattle.model.proofs.Best.{next-mem}
 use Rattle.model.proofs.Chosen.{none-chosen, some-chosen}

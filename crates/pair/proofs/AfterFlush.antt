@@ -14,7 +14,7 @@ use Rattle.block_land.proofs.Sound as block-sound
 use Rattle.flush.specs.Flush.{checkOf}
 use Rattle.flush.specs.declared.FlushCheck.{FlushCheck}
 use Rattle.flush.proofs.FlushKeeps as keeps
-use Rattle.pair.specs.Inserts.{flushOf, flushedCounts, flushedNodes, closedBy}
+use Rattle.pair.specs.inner.Inserts.{flushOf, flushedCounts, flushedNodes, closedBy}
 use Rattle.pair.specs.declared.Pair.{Pair}
 
 module _ (p : Pair) (ws vs : List ℕ) where

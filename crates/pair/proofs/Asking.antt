@@ -19,12 +19,12 @@ use Rattle.list_land.specs.Layout as list
 use Rattle.list_land.proofs.Sound as list-sound
 use Rattle.block_words.specs.declared.Entry.{Entry}
 use Rattle.block_land.specs.Layout as block
-use Rattle.block_land.specs.Parts as block-parts
+use Rattle.block_land.specs.inner.Parts as block-parts
 use Rattle.block_land.proofs.Requests as block-requests
 use Rattle.block_land.proofs.Sound as block-sound
 use Rattle.pair_model.specs.Pairs.{PairCall, both, keep, pair-step}
 use Rattle.pair.specs.Calls.{PairDone, called}
-use Rattle.pair.specs.Parts.{Checked, Ranged}
+use Rattle.pair.specs.inner.Parts.{Checked, Ranged}
 use Rattle.pair.specs.declared.Pair.{Pair}
 use Rattle.pair.proofs.Calling.{Hands, refusal, refuse, list-looked, block-looked, refuses}
 use Rattle.pair.proofs.Checking.{same-up}

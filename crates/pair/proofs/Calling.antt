@@ -1,9 +1,8 @@
 -- What a call of a pair equals, by the way it takes: 5 or 6, a refused step, an accepted step. Assumes nothing.
 use Prim.Native.Nat.{ℕ}
-use mathlib.Core.Bool.{Bool, true, false, not, cond, _&&_}
+use mathlib.Core.Bool.{Bool, true, false, not, _&&_}
 use mathlib.Core.List.{List}
 use mathlib.Core.Path.{_≡_, refl, sym, ap, _∙_}
-use native.Mathlib.Omega.{arith}
 use lib.Dec.{eqb}
 use borrow.Author.Tests.{not-true, not-false}
 use Rattle.units.specs.declared.aims.Aim.{Aim}
@@ -14,24 +13,24 @@ use Rattle.model.specs.Marks.{Range}
 use Rattle.model.proofs.Looking.{said, said-5, said-6, said-0}
 use Rattle.model.proofs.Outcomes.{fault-number}
 use Rattle.list_words.specs.Laying.{lay}
-use Rattle.list_words.specs.Surveys.{kept-of}
+use Rattle.list_words.specs.inner.Surveys.{kept-of}
 use Rattle.list_words.specs.declared.Spot.{Spot}
 use Rattle.list_land.specs.Layout as list
-use Rattle.list_land.specs.Parts as list-parts
+use Rattle.list_land.specs.inner.Parts as list-parts
 use Rattle.list_land.proofs.Land as list-land
 use Rattle.block_words.specs.Words.{fill}
-use Rattle.block_words.specs.Surveys.{entryOf}
+use Rattle.block_words.specs.inner.Surveys.{entryOf}
 use Rattle.block_words.specs.declared.Entry.{Entry}
 use Rattle.block_land.specs.Layout as block
-use Rattle.block_land.specs.Parts as block-parts
+use Rattle.block_land.specs.inner.Parts as block-parts
 use Rattle.block_land.proofs.Land as block-land
 use Rattle.flush.specs.Flush.{sameArena}
 use Rattle.flush.specs.Flush as flush-check
 use Rattle.flush.specs.declared.FlushCheck.{FlushCheck}
 use Rattle.pair_model.specs.Pairs.{both, PairCall, Sets, keep, pair-step}
 use Rattle.pair_model.specs.PairLayouts.{meet, pair-read}
-use Rattle.pair.specs.Calls.{lands, PairDone, called}
-use Rattle.pair.specs.Parts.{setUp, sound, checkOf, checkNumber, Checked}
+use Rattle.pair.specs.Calls.{lands, PairDone, called, setUp, sound}
+use Rattle.pair.specs.inner.Parts.{checkOf, checkNumber, Checked}
 use Rattle.pair.specs.declared.Pair.{Pair}
 use Rattle.pair.specs.declared.PairCheck.{PairCheck}
 use Rattle.pair.proofs.Checking.{list-up, block-up, flush-good}

@@ -15,16 +15,16 @@ use Rattle.units.specs.declared.rules.Soundness.{Soundness}
 use Rattle.units.proofs.Cases.{set-up-true, set-up-false, sound-true, sound-false}
 use Rattle.units.proofs.Tests.{by, and-left, and-right}
 use Rattle.model.specs.Marks.{Range}
-use Rattle.list_words.specs.Surveys as list-words
-use Rattle.list_words.specs.Surveys.{kept-of}
+use Rattle.list_words.specs.inner.Surveys as list-words
+use Rattle.list_words.specs.inner.Surveys.{kept-of}
 use Rattle.list_words.specs.declared.Chain.{Chain}
 use Rattle.list_words.specs.declared.Spot.{Spot}
 use Rattle.list_words.specs.declared.Verdict.{Verdict}
 use Rattle.list_land.specs.Layout as list
-use Rattle.list_land.specs.Parts as list-parts
+use Rattle.list_land.specs.inner.Parts as list-parts
 use Rattle.list_land.proofs.Sound as list-sound
-use Rattle.block_words.specs.Surveys.{entryOf, Rising}
-use Rattle.block_words.specs.Tallies.{Ready}
+use Rattle.block_words.specs.inner.Surveys.{entryOf, Rising}
+use Rattle.block_words.specs.inner.Tallies.{Ready}
 use Rattle.block_words.specs.Words.{pairs, soundTable}
 use Rattle.block_words.specs.declared.Entry.{Entry}
 use Rattle.block_words.proofs.Surveying.{sound-rising}
@@ -34,9 +34,9 @@ use Rattle.flush.specs.Flush as flush-check
 use Rattle.flush.specs.declared.FlushCheck.{FlushCheck}
 use Rattle.flush.proofs.FlushKeeps.{OneArena, one-arena}
 use Rattle.pair_model.specs.PairLayouts.{meet}
-use Rattle.pair_words.specs.Besides.{surveyBeside}
-use Rattle.pair.specs.Calls.{refusedBy, foundNone}
-use Rattle.pair.specs.Parts.{setUp, sound, checkOf}
+use Rattle.pair_words.specs.inner.Besides.{surveyBeside}
+use Rattle.pair.specs.Calls.{setUp, sound}
+use Rattle.pair.specs.inner.Parts.{checkOf, refusedBy, foundNone}
 use Rattle.pair.specs.declared.Pair.{Pair}
 use Rattle.pair.specs.declared.PairCheck.{PairCheck}
 

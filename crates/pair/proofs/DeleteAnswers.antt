@@ -9,31 +9,31 @@ use Rattle.units.specs.declared.Range as units
 use Rattle.units.specs.declared.Size.{Size}
 use Rattle.model.specs.Calls.{good-range, accepted}
 use Rattle.model.specs.Marks.{Range, rng, struct}
-use Rattle.model.specs.Lists.{holds, holder}
+use Rattle.model.specs.inner.Lists.{holds, holder}
 use Rattle.model.proofs.Totals.{total-delete}
 use Rattle.list_words.specs.Laying.{lay}
 use Rattle.list_words.specs.declared.Spot.{Spot}
 use Rattle.list_words.proofs.Laid.{lay-laid}
 use Rattle.list_land.specs.Layout as list
-use Rattle.list_land.specs.Parts.{Looked, reachLimit}
+use Rattle.list_land.specs.inner.Parts.{Looked, reachLimit}
 use Rattle.list_land.specs.declared.ListLand.{ListLand}
 use Rattle.list_land.proofs.LayoutLaws as list-laws
 use Rattle.block_words.specs.Words.{fill}
-use Rattle.block_words.specs.Surveys as places
+use Rattle.block_words.specs.inner.Surveys as places
 use Rattle.block_words.specs.declared.Entry.{Entry}
-use Rattle.block_edits.specs.Edits.{Sorted, cutOf, cutWords}
+use Rattle.block_edits.specs.inner.Edits.{Sorted, cutOf, cutWords}
 use Rattle.block_edits.specs.declared.Edited.{Edited}
 use Rattle.block_edits.proofs.Answered.{cut-refused, cut-full, cut-done, cut-words}
 use Rattle.block_land.specs.Layout as block
-use Rattle.block_land.specs.Parts as block-parts
+use Rattle.block_land.specs.inner.Parts as block-parts
 use Rattle.block_land.specs.declared.BlockLand.{BlockLand}
 use Rattle.block_land.proofs.EditAnswers as block-edits
 use Rattle.block_land.proofs.Requests as block-requests
 use Rattle.block_land.proofs.LayoutLaws as block-laws
 use Rattle.pair_model.specs.Pairs.{both, delete, pair-step}
 use Rattle.pair.specs.Calls.{called, changed, deleted}
-use Rattle.pair.specs.Deletes.{begins, Asked, Unlisted, Spilling, Nowhere}
-use Rattle.pair.specs.Editing.{listLess, tableLess, TakingListed}
+use Rattle.pair.specs.inner.Deletes.{begins, Asked, Unlisted, Spilling, Nowhere}
+use Rattle.pair.specs.inner.Editing.{listLess, tableLess, TakingListed}
 use Rattle.pair.specs.declared.Changed.{Changed}
 use Rattle.pair.specs.declared.Pair.{Pair}
 use Rattle.pair.proofs.Asking.{list-fine, block-fine, readable, order, list-good}

@@ -10,19 +10,19 @@ use Rattle.units.proofs.Tests.{and-right}
 use Rattle.model.specs.Answers.{RangeRules}
 use Rattle.model.specs.Calls.{good-range}
 use Rattle.model.specs.Marks.{Range, struct}
-use Rattle.model.specs.Lists.{holds, holder}
-use Rattle.model.specs.Picks.{here-of}
+use Rattle.model.specs.inner.Lists.{holds, holder}
+use Rattle.model.specs.inner.Picks.{here-of}
 use Rattle.model.proofs.Reaching.{reach}
 use Rattle.model.proofs.Requests.{range-rules}
 use Rattle.model.proofs.Surrounding.{held}
 use Rattle.list_words.specs.declared.Spot.{Spot}
 use Rattle.list_land.specs.Layout as list
-use Rattle.list_land.specs.Parts.{arenaIn, chainIn, Looked, reachLimit}
+use Rattle.list_land.specs.inner.Parts.{arenaIn, chainIn, Looked, reachLimit}
 use Rattle.list_land.specs.declared.ListLand.{ListLand}
 use Rattle.list_land.proofs.Requests.{looked-fine, looked-held}
 use Rattle.list_land.proofs.Sound.{Fine}
-use Rattle.pair.specs.Deletes.{begins}
-use Rattle.pair.specs.Editing.{TakingListed}
+use Rattle.pair.specs.inner.Deletes.{begins}
+use Rattle.pair.specs.inner.Editing.{TakingListed}
 use Rattle.pair.proofs.ReachedHere.{begins-holds, reach-holder, spot-reach}
 
 module _ (h : ListLand) (ws : List ℕ) (y : units.Range) (s : Spot) (k : Looked h ws (reachLimit y) s)

@@ -9,21 +9,22 @@ use Rattle.units.specs.declared.Range as units
 use Rattle.units.specs.declared.Size.{Size}
 use Rattle.units.specs.declared.rules.Arena as units-arena
 use Rattle.model.specs.Marks.{Range}
-use Rattle.list_words.specs.Surveys.{walkOf}
+use Rattle.list_words.specs.inner.Surveys.{walkOf}
 use Rattle.list_words.specs.declared.Spot.{Spot}
 use Rattle.list_edits.proofs.Sound.{small}
 use Rattle.list_land.specs.Layout as list
-use Rattle.list_land.specs.Parts.{arenaIn, chainIn, reachLimit}
+use Rattle.list_land.specs.inner.Parts.{arenaIn, chainIn, reachLimit}
 use Rattle.block_words.specs.Words.{pairs}
 use Rattle.block_words.specs.declared.Entry.{Entry}
 use Rattle.block_land.specs.Layout as block
 use Rattle.block_land.proofs.Requests.{few-bytes}
 use Rattle.flush.proofs.FlushAnswers.{going}
 use Rattle.pair_model.specs.Pairs.{both, delete, inside, all-inside}
-use Rattle.pair_words.specs.Shares as shares
+use Rattle.pair_words.specs.inner.Shares as shares
 use Rattle.pair_words.proofs.Sharing.{inside-total}
-use Rattle.pair.specs.Calls.{changed, deleted, refusedBy}
-use Rattle.pair.specs.Deletes.{Asked, Nowhere}
+use Rattle.pair.specs.inner.Parts.{refusedBy}
+use Rattle.pair.specs.Calls.{changed, deleted}
+use Rattle.pair.specs.inner.Deletes.{Asked, Nowhere}
 use Rattle.pair.specs.declared.Changed.{Changed}
 use Rattle.pair.specs.declared.Pair.{Pair}
 use Rattle.pair.proofs.Calling.{flush-checked, refuses, refuse}

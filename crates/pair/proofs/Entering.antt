@@ -9,32 +9,32 @@ use Rattle.units.specs.declared.Range as units
 use Rattle.units.specs.declared.Size.{Size}
 use Rattle.units.specs.declared.aims.Aim.{Aim}
 use Rattle.units.specs.declared.rules.Arena.{Arena}
-use Rattle.model.specs.Marks.{Range, struct}
-use Rattle.model.specs.Lists.{total, overlaps, holder}
+use Rattle.model.specs.Marks.{Range, struct, total}
+use Rattle.model.specs.inner.Lists.{overlaps, holder}
 use Rattle.model.proofs.Totals.{total-insert}
-use Rattle.list_words.specs.Surveys.{walkOf, kept-of}
+use Rattle.list_words.specs.inner.Surveys.{walkOf, kept-of}
 use Rattle.list_words.specs.declared.Spot as list-spot
-use Rattle.list_edits.specs.Chains as chains
-use Rattle.list_edits.specs.Chains.{metOf, Held, mayAsk}
+use Rattle.list_edits.specs.inner.Chains as chains
+use Rattle.list_edits.specs.inner.Chains.{metOf, Held, mayAsk}
 use Rattle.list_edits.specs.declared.Joined as list-joined
-use Rattle.block_words.specs.Surveys.{Spot}
+use Rattle.block_words.specs.inner.Surveys.{Spot}
 use Rattle.list_land.specs.Layout as list
-use Rattle.list_land.specs.Parts as list-parts
+use Rattle.list_land.specs.inner.Parts as list-parts
 use Rattle.list_land.specs.declared.ListLand.{ListLand}
-use Rattle.block_edits.specs.Edits as edits
-use Rattle.block_edits.specs.Edits.{Sorted}
+use Rattle.block_edits.specs.inner.Edits as edits
+use Rattle.block_edits.specs.inner.Edits.{Sorted}
 use Rattle.block_edits.specs.declared.Joined.{Joined}
 use Rattle.block_edits.proofs.Answered.{Did}
 use Rattle.block_land.specs.Layout as block
-use Rattle.block_land.specs.Parts as block-parts
+use Rattle.block_land.specs.inner.Parts as block-parts
 use Rattle.block_land.specs.declared.BlockLand.{BlockLand}
 use Rattle.block_land.proofs.Requests.{whole, sorted, few-bytes}
 use Rattle.flush.specs.Flush.{Done, checkOf, flushed}
 use Rattle.flush.specs.declared.FlushCheck.{FlushCheck}
 use Rattle.flush.specs.declared.Flushed.{Flushed}
 use Rattle.flush.proofs.FlushKeeps.{checked, is-accepted}
-use Rattle.pair_words.specs.Lefts.{Left}
-use Rattle.pair.specs.Inserts.{flushedCounts, flushedNodes, enterList, enterWords, Roomless, blocked, roomy, enteredNodes, entered, enteredWords, Open}
+use Rattle.pair_words.specs.inner.Lefts.{Left}
+use Rattle.pair.specs.inner.Inserts.{flushedCounts, flushedNodes, enterList, enterWords, Roomless, blocked, roomy, enteredNodes, entered, enteredWords, Open}
 use Rattle.pair.specs.declared.Pair.{Pair}
 use Rattle.pair.specs.declared.insert.Counts.{Counts}
 use Rattle.pair.specs.declared.insert.Entered.{Entered}

@@ -1,13 +1,13 @@
 -- The ways out of a find of a pair: 5, 6, 4, 2, the find in the list, the find in the block land. Assumes nothing.
 use Prim.Native.Nat.{ℕ, _<_}
-use mathlib.Core.Bool.{Bool, true, false, cond}
+use mathlib.Core.Bool.{Bool, true, cond}
 use mathlib.Core.List.{List, [], _∷_}
 use mathlib.Core.Logic.{⊎-elim}
 use mathlib.Core.Path.{_≡_, refl, sym, ap, ap₂, subst, _∙_}
 use native.Mathlib.Omega.{arith}
 use types.Run.{OneOf}
 use denote.Enum.Declared.{tagOf}
-use Rattle.units.specs.Aims as units-aims
+use Rattle.units.specs.inner.Aims as units-aims
 use Rattle.units.specs.Rules.{goodAlign, findCheck, findSize, setUpOf}
 use Rattle.units.specs.declared.Mode.{Mode}
 use Rattle.units.specs.declared.Range as units
@@ -24,26 +24,26 @@ use Rattle.model.specs.Calls as land
 use Rattle.model.specs.Calls.{Arena, Step, good-size, size-number, find-size}
 use Rattle.model.specs.Flushing.{unlimited}
 use Rattle.model.specs.Marks.{Range}
-use Rattle.model.specs.Steps.{list-ops, choose, step}
+use Rattle.model.specs.inner.Steps.{list-ops, choose, step}
 use Rattle.model.proofs.Checks.{size-bad, size-good}
 use Rattle.model.proofs.FindAnswers.{chosen, chosen-above, chosen-order}
 use Rattle.model.proofs.Requests.{size-refused}
 use Rattle.list_words.specs.declared.Spot.{Spot}
 use Rattle.list_land.specs.Calls as list-calls
 use Rattle.list_land.specs.Layout as list
-use Rattle.list_land.specs.Parts as list-parts
+use Rattle.list_land.specs.inner.Parts as list-parts
 use Rattle.list_land.proofs.Land.{list-land}
 use Rattle.block_words.specs.declared.Entry.{Entry}
 use Rattle.block_land.specs.Calls as block-calls
 use Rattle.block_land.specs.Layout as block
-use Rattle.block_land.specs.Parts as block-parts
+use Rattle.block_land.specs.inner.Parts as block-parts
 use Rattle.block_land.proofs.Land.{block-land}
 use Rattle.block_land.proofs.Sound as block-sound
 use Rattle.flush.proofs.FlushKeeps.{OneArena}
 use Rattle.pair_model.specs.Pairs.{both, Sets, find, keep, in-list, in-block, find-in, pair-step}
-use Rattle.pair.specs.Calls.{called, found, foundOf, foundNone}
-use Rattle.pair.specs.Finding.{findAim, Ordered, sideOf, ListChosen, BlockChosen, listFound, blockFound}
-use Rattle.pair.specs.Parts.{setUp, sound, checkOf, Checked}
+use Rattle.pair.specs.Calls.{called, found, foundOf, setUp, sound}
+use Rattle.pair.specs.inner.Finding.{findAim, Ordered, sideOf, ListChosen, BlockChosen, listFound, blockFound}
+use Rattle.pair.specs.inner.Parts.{checkOf, Checked, foundNone}
 use Rattle.pair.specs.declared.Found.{Found}
 use Rattle.pair.specs.declared.Pair.{Pair}
 use Rattle.pair.specs.declared.PairCheck.{PairCheck}

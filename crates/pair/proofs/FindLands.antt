@@ -1,6 +1,5 @@
 -- A find in one land of a pair: the step where the look kept a range, which is always accepted. Assumes nothing.
 use Prim.Native.Nat.{ℕ}
-use mathlib.Core.Bool.{true}
 use mathlib.Core.List.{List}
 use mathlib.Core.Option.{some}
 use mathlib.Core.Path.{_≡_}
@@ -8,9 +7,9 @@ use Rattle.units.specs.declared.Mode.{Mode}
 use Rattle.units.specs.declared.Size.{Size}
 use Rattle.units.specs.declared.Which.{Which}
 use Rattle.model.specs.Calls.{Arena, Call, find, accepted, good-size, find-size}
-use Rattle.model.specs.Looks.{Chose}
+use Rattle.model.specs.inner.Looks.{Chose}
 use Rattle.model.specs.Marks.{Range}
-use Rattle.model.specs.Steps.{list-ops, choose, part, taken, step}
+use Rattle.model.specs.inner.Steps.{list-ops, choose, part, taken, step}
 use Rattle.model.proofs.Chosen.{some-chosen}
 use Rattle.model.proofs.FindAnswers.{find-aim, chosen}
 use Rattle.model.proofs.Land.{Land}

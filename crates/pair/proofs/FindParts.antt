@@ -12,14 +12,14 @@ use Rattle.units.specs.declared.Which.{Which}
 use Rattle.units.specs.declared.rules.Arena.{Arena}
 use Rattle.units.proofs.Mode as mode-type
 use Rattle.model.specs.Marks.{struct, plain}
-use Rattle.model.specs.Steps.{part}
+use Rattle.model.specs.inner.Steps.{part}
 use Rattle.model.proofs.FindAnswers.{find-kept, find-part, find-0}
-use Rattle.finds.specs.Parts.{Within}
+use Rattle.finds.specs.inner.Parts.{Within}
 use Rattle.list_words.specs.Laying.{lay}
 use Rattle.list_words.specs.declared.Spot.{Spot}
 use Rattle.list_land.specs.Calls as list-calls
 use Rattle.list_land.specs.Layout as list
-use Rattle.list_land.specs.Parts as list-parts
+use Rattle.list_land.specs.inner.Parts as list-parts
 use Rattle.list_land.specs.declared.Found as list-found
 use Rattle.list_land.specs.declared.ListLand.{ListLand}
 use Rattle.list_land.proofs.FindAnswers as list-finds
@@ -28,14 +28,14 @@ use Rattle.block_words.specs.Words.{fill}
 use Rattle.block_words.specs.declared.Entry.{Entry}
 use Rattle.block_land.specs.Calls as block-calls
 use Rattle.block_land.specs.Layout as block
-use Rattle.block_land.specs.Parts as block-parts
+use Rattle.block_land.specs.inner.Parts as block-parts
 use Rattle.block_land.specs.declared.BlockLand.{BlockLand}
 use Rattle.block_land.specs.declared.Found as block-found
 use Rattle.block_land.proofs.FindAnswers as block-finds
 use Rattle.block_land.proofs.Land.{block-land}
 use Rattle.block_land.proofs.Requests.{readable}
-use Rattle.pair.specs.Editing.{listLess, tableLess, TakingListed, TakingTabled}
-use Rattle.pair.specs.Finding.{ListChosen, BlockChosen, listFound, blockFound}
+use Rattle.pair.specs.inner.Editing.{listLess, tableLess, TakingListed, TakingTabled}
+use Rattle.pair.specs.inner.Finding.{ListChosen, BlockChosen, listFound, blockFound}
 use Rattle.pair.specs.declared.Found.{Found}
 use Rattle.pair.specs.declared.Pair.{Pair}
 

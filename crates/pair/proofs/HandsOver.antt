@@ -7,16 +7,16 @@ use mathlib.Core.Path.{_≡_, refl, sym, ap, subst, _∙_}
 use native.Mathlib.Omega.{arith}
 use lib.ListN.{length}
 use borrow.Author.Tests.{ne-eqb}
-use Rattle.units.specs.Aims.{isNone}
+use Rattle.units.specs.inner.Aims.{isNone}
 use Rattle.units.specs.Words.{rangeOf}
 use Rattle.units.specs.declared.Range as units
 use Rattle.units.specs.declared.rules.Arena as arenas
 use Rattle.units.proofs.Tests.{by, clash}
 use Rattle.model.specs.Answers.{RangeRules}
 use Rattle.model.specs.Calls.{Arena, good-range}
-use Rattle.model.specs.Marks.{Range, struct}
-use Rattle.model.specs.Lists.{marksOf, overlaps, holds, holder, insert-in, delete-from}
-use Rattle.model.specs.Picks.{here-of}
+use Rattle.model.specs.Marks.{Range, struct, marksOf}
+use Rattle.model.specs.inner.Lists.{overlaps, holds, holder, insert-in, delete-from}
+use Rattle.model.specs.inner.Picks.{here-of}
 use Rattle.model.proofs.Bytes.{mem-from, mem-upto}
 use Rattle.model.proofs.Bytewise.{holds-all}
 use Rattle.model.proofs.Counting.{cut-end}
@@ -26,14 +26,14 @@ use Rattle.model.proofs.Surrounding.{Held, held}
 use Rattle.list_words.specs.Laying.{lay}
 use Rattle.list_words.specs.declared.Chain.{Chain}
 use Rattle.list_words.specs.declared.Spot.{Spot}
-use Rattle.list_edits.specs.Chains as chains
-use Rattle.list_edits.specs.Chains.{metOf, mayAsk}
+use Rattle.list_edits.specs.inner.Chains as chains
+use Rattle.list_edits.specs.inner.Chains.{metOf, mayAsk}
 use Rattle.list_land.specs.Layout as list
-use Rattle.list_land.specs.Parts.{arenaIn, chainIn, reachBase, reachLimit}
+use Rattle.list_land.specs.inner.Parts.{arenaIn, chainIn, reachBase, reachLimit}
 use Rattle.list_land.specs.declared.ListLand.{ListLand}
 use Rattle.block_words.specs.Words.{capacity, fill}
 use Rattle.block_words.specs.declared.Entry.{Entry}
-use Rattle.block_edits.specs.Places.{Holding}
+use Rattle.block_edits.specs.inner.Places.{Holding}
 use Rattle.block_edits.proofs.Entering.{Numbered, kept-numbered}
 use Rattle.block_land.specs.Layout as block
 use Rattle.block_land.specs.declared.BlockLand.{BlockLand}
@@ -45,8 +45,8 @@ use Rattle.pair_model.specs.PairLayouts.{PairFine}
 use Rattle.pair_model.proofs.HandingOver.{upper}
 use Rattle.pair_model.proofs.InsertTurns.{no-overlap}
 use Rattle.pair_model.proofs.PairLaws.{meet-disjoint}
-use Rattle.pair.specs.Deletes.{Asked, Spilling}
-use Rattle.pair.specs.Editing.{listMore, tableLess, TakingTabled}
+use Rattle.pair.specs.inner.Deletes.{Asked, Spilling}
+use Rattle.pair.specs.inner.Editing.{listMore, tableLess, TakingTabled}
 use Rattle.pair.specs.declared.Pair.{Pair}
 use Rattle.pair.proofs.Calling.{apart, list-looked, flush-checked}
 use Rattle.pair.proofs.Checking.{same-up}

@@ -8,18 +8,18 @@ use lib.Dec.{leb}
 use lib.ListN.{length}
 use Rattle.units.specs.declared.Range as units
 use Rattle.units.proofs.Tests.{by, or-left, or-right, and-left}
-use Rattle.model.specs.Marks.{Range, rng, struct}
-use Rattle.model.specs.Lists.{Apart, marksOf, overlaps, holder, insert-in}
+use Rattle.model.specs.Marks.{Range, rng, struct, marksOf}
+use Rattle.model.specs.inner.Lists.{Apart, overlaps, holder, insert-in}
 use Rattle.model.specs.Flushing.{Flush}
 use Rattle.model.proofs.Bytewise.{overlaps-none}
 use Rattle.model.proofs.Requests.{range-rules}
 use Rattle.list_words.specs.Laying.{lay}
-use Rattle.list_words.specs.Surveys.{kept-of}
+use Rattle.list_words.specs.inner.Surveys.{kept-of}
 use Rattle.list_words.specs.Words.{isClean, soundWalk}
 use Rattle.list_words.specs.declared.Spot.{Spot}
 use Rattle.block_words.specs.declared.Entry.{Entry}
 use Rattle.list_land.specs.Layout as list
-use Rattle.list_land.specs.Parts.{reachBase}
+use Rattle.list_land.specs.inner.Parts.{reachBase}
 use Rattle.list_land.specs.declared.ListLand.{ListLand}
 use Rattle.list_land.proofs.Sound as list-sound
 use Rattle.block_words.specs.Words.{capacity, fill}
@@ -29,7 +29,7 @@ use Rattle.flush.specs.Flush.{checkOf}
 use Rattle.flush.specs.declared.FlushCheck.{FlushCheck}
 use Rattle.pair_model.specs.Pairs.{insert}
 use Rattle.pair_model.proofs.InsertTurns.{no-overlap}
-use Rattle.pair.specs.Inserts.{countsOf, flushOf, flushedCounts, flushedNodes, closedBy, entered, enteredWords, enteredNodes, Open, Bare, Placed}
+use Rattle.pair.specs.inner.Inserts.{countsOf, flushOf, flushedCounts, flushedNodes, closedBy, entered, enteredWords, enteredNodes, Open, Bare, Placed}
 use Rattle.pair.specs.declared.Changed.{Changed}
 use Rattle.pair.specs.declared.Pair.{Pair}
 use Rattle.pair.specs.declared.insert.Counts.{Counts}

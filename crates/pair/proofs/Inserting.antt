@@ -6,22 +6,23 @@ use mathlib.Core.Path.{_≡_, refl, sym, _∙_}
 use Rattle.units.specs.declared.Range as units
 use Rattle.units.specs.declared.rules.Arena as units-arena
 use Rattle.model.specs.Marks.{Range}
-use Rattle.model.specs.Lists.{overlaps}
+use Rattle.model.specs.inner.Lists.{overlaps}
 use Rattle.list_words.specs.declared.Chain.{Chain}
 use Rattle.list_words.specs.declared.Spot.{Spot}
-use Rattle.list_edits.specs.Chains.{metOf, Held, mayAsk}
+use Rattle.list_edits.specs.inner.Chains.{metOf, Held, mayAsk}
 use Rattle.list_land.specs.Layout as list
-use Rattle.list_land.specs.Parts as list-parts
-use Rattle.list_land.specs.Parts.{reachBase}
+use Rattle.list_land.specs.inner.Parts as list-parts
+use Rattle.list_land.specs.inner.Parts.{reachBase}
 use Rattle.list_land.proofs.Requests as list-requests
-use Rattle.block_words.specs.Surveys as places
+use Rattle.block_words.specs.inner.Surveys as places
 use Rattle.block_words.specs.declared.Entry.{Entry}
-use Rattle.block_edits.specs.Edits.{Sorted}
+use Rattle.block_edits.specs.inner.Edits.{Sorted}
 use Rattle.block_land.specs.Layout as block
 use Rattle.block_land.proofs.Requests as block-requests
 use Rattle.pair_model.specs.Pairs.{insert}
-use Rattle.pair.specs.Calls.{called, changed, inserted, refusedBy}
-use Rattle.pair.specs.Inserts.{takenIn, Wanted, Bare}
+use Rattle.pair.specs.inner.Parts.{refusedBy}
+use Rattle.pair.specs.Calls.{called, changed, inserted}
+use Rattle.pair.specs.inner.Inserts.{takenIn, Wanted, Bare}
 use Rattle.pair.specs.declared.Changed.{Changed}
 use Rattle.pair.specs.declared.Pair.{Pair}
 use Rattle.pair.proofs.Asking.{readable, order, list-good}

@@ -8,26 +8,26 @@ use lib.ListN.{length}
 use Rattle.units.specs.declared.Range as units
 use Rattle.units.specs.declared.Size.{Size}
 use Rattle.units.specs.declared.rules.Arena.{Arena}
-use Rattle.model.specs.Marks.{Range}
-use Rattle.model.specs.Lists.{total, overlaps}
+use Rattle.model.specs.Marks.{Range, total}
+use Rattle.model.specs.inner.Lists.{overlaps}
 use Rattle.model.specs.Calls.{good-range}
 use Rattle.model.proofs.Totals.{total-delete}
 use Rattle.list_words.specs.Laying.{lay}
 use Rattle.list_words.specs.declared.Chain.{Chain}
 use Rattle.list_words.specs.declared.Spot.{Spot}
-use Rattle.list_edits.specs.Chains as chains
-use Rattle.list_edits.specs.Chains.{metOf, Held, Holding, mayAsk, joinedOf, joinedWords, cutChain}
+use Rattle.list_edits.specs.inner.Chains as chains
+use Rattle.list_edits.specs.inner.Chains.{metOf, Held, Holding, mayAsk, joinedOf, joinedWords, cutChain}
 use Rattle.list_edits.specs.declared.Joined.{Joined}
 use Rattle.list_land.specs.Layout as list
-use Rattle.list_land.specs.Parts.{arenaIn, chainIn, closedWith, Looked, reachBase}
+use Rattle.list_land.specs.inner.Parts.{arenaIn, chainIn, closedWith, Looked, reachBase}
 use Rattle.list_land.specs.declared.ListLand.{ListLand}
 use Rattle.list_land.proofs.Requests as list-requests
 use Rattle.block_words.specs.Words.{fill}
 use Rattle.block_land.specs.Layout as block
-use Rattle.block_land.specs.Parts as block-parts
+use Rattle.block_land.specs.inner.Parts as block-parts
 use Rattle.block_land.specs.declared.BlockLand.{BlockLand}
 use Rattle.block_land.proofs.Requests.{closes, whole}
-use Rattle.pair.specs.Editing.{listLess, listMore, tableLess, TakingListed, TakingTabled}
+use Rattle.pair.specs.inner.Editing.{listLess, listMore, tableLess, TakingListed, TakingTabled}
 
 -- the arena and the chain that the code passes on are those of the list
 module _ (h : ListLand) (ws : List ℕ) (y : units.Range) (a : Arena) (ea : a ≡ arenaIn h) (c : Chain) (ec : c ≡ chainIn h) where

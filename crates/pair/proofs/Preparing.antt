@@ -9,20 +9,20 @@ use lib.ListN.{length}
 use borrow.Author.Tests.{eqb-true}
 use Rattle.units.specs.declared.Range as units
 use Rattle.model.specs.Marks.{Range}
-use Rattle.model.specs.Lists.{Apart}
+use Rattle.model.specs.inner.Lists.{Apart}
 use Rattle.model.specs.Flushing.{Flush}
 use Rattle.model.proofs.Flushing.{flush-still}
 use Rattle.model.proofs.Places.{apart-rest}
 use Rattle.list_words.specs.Laying.{head-of}
 use Rattle.list_land.specs.Layout as list
-use Rattle.block_words.specs.Surveys.{Ordered, Spot}
+use Rattle.block_words.specs.inner.Surveys.{Ordered, Spot}
 use Rattle.block_words.specs.Words.{fill}
 use Rattle.block_words.specs.declared.Entry.{Entry}
 use Rattle.block_land.specs.Layout as block
 use Rattle.block_land.specs.declared.BlockLand.{BlockLand}
 use Rattle.block_land.proofs.Requests.{sorted}
 use Rattle.block_land.proofs.LayoutLaws.{words-back, handle-back}
-use Rattle.pair.specs.Inserts.{flushOf, flushedCounts, flushedNodes, Placed}
+use Rattle.pair.specs.inner.Inserts.{flushOf, flushedCounts, flushedNodes, Placed}
 use Rattle.pair.specs.declared.Pair.{Pair}
 use Rattle.pair.specs.declared.insert.Counts.{Counts}
 use Rattle.pair.proofs.AfterFlush.{flushedPair, After, after}

@@ -12,20 +12,20 @@ use Rattle.units.specs.declared.Range as units
 use Rattle.units.specs.declared.aims.Aim.{Aim}
 use Rattle.units.proofs.Tests.{by, clash, tests, and-right, or-second}
 use Rattle.model.specs.Marks.{Range}
-use Rattle.model.specs.Lists.{Apart, covers, holds, holder}
-use Rattle.model.specs.Picks.{here-of}
+use Rattle.model.specs.inner.Lists.{Apart, covers, holds, holder}
+use Rattle.model.specs.inner.Picks.{here-of}
 use Rattle.model.proofs.Aiming.{picked-by, by-reach}
 use Rattle.model.proofs.Bytes.{mem-from}
 use Rattle.model.proofs.Places.{holds-above}
 use Rattle.model.proofs.Reaching.{reach}
 use Rattle.model.proofs.Surrounding.{held}
-use Rattle.list_words.specs.Surveys.{kept-of}
+use Rattle.list_words.specs.inner.Surveys.{kept-of}
 use Rattle.list_words.specs.declared.Spot.{Spot}
 use Rattle.list_words.proofs.Keeping.{Placed, kept-reach}
-use Rattle.block_words.specs.Surveys.{entryOf}
+use Rattle.block_words.specs.inner.Surveys.{entryOf}
 use Rattle.block_words.specs.declared.Entry.{Entry}
 use Rattle.block_edits.proofs.Entering.{entry-here}
-use Rattle.pair.specs.Deletes.{begins}
+use Rattle.pair.specs.inner.Deletes.{begins}
 
 pub begins-holds : (y : units.Range) (lo hi : ℕ) (rs : List Range) → 0 < lo → y .base .0 < y .limit .0 → Apart lo hi rs →
     begins y (here-of (reach (y .limit .0) rs)) ≡ holds (y .base .0) (y .limit .0) rs

@@ -13,9 +13,9 @@ use Rattle.units.proofs.Tests.{by}
 use Rattle.model.specs.Calls as land
 use Rattle.model.specs.Calls.{Arena, Step}
 use Rattle.model.specs.Marks.{Range, plain}
-use Rattle.model.specs.Picks.{here-of}
+use Rattle.model.specs.inner.Picks.{here-of}
 use Rattle.pair_model.specs.Pairs.{Sets, keep, in-list, in-block, list-step, block-step, list-first, find-in}
-use Rattle.pair.specs.Finding.{sideOf}
+use Rattle.pair.specs.inner.Finding.{sideOf}
 use Rattle.pair.specs.declared.find.Side.{Side}
 
 -- the comparison of two ranges

@@ -1,7 +1,7 @@
 -- What the calls of a pair equal (K4). Assumes nothing.
 use Prim.Native.Nat.{ℕ}
+use mathlib.Core.Bool.{Bool, not, _&&_}
 use mathlib.Core.List.{List}
-use Rattle.units.specs.Words.{rangeOf}
 use Rattle.units.specs.declared.Mode.{Mode}
 use Rattle.units.specs.declared.Range.{Range}
 use Rattle.units.specs.declared.Which.{Which}
@@ -13,7 +13,8 @@ use Rattle.list_land.specs.declared.ListLand.{ListLand}
 use Rattle.block_land.specs.Layout as block
 use Rattle.block_land.specs.declared.BlockLand.{BlockLand}
 use Rattle.pair_model.specs.Pairs.{Both, both, PairCall, insert, delete, find}
-use Rattle.pair_model.specs.PairLayouts.{pair-call}
+use Rattle.flush.specs.Flush.{sameArena}
+use Rattle.pair_model.specs.PairLayouts.{meet, pair-call}
 use Rattle.pair.specs.declared.Pair.{Pair}
 use Rattle.pair.specs.declared.Changed.{Changed}
 use Rattle.pair.specs.declared.Found.{Found}
@@ -49,9 +50,10 @@ changed d = record { pair = pairOf (d .handle); answer = d .out .answer; range =
 abbrev pub foundOf : PairDone → Found
 foundOf d = record { pair = pairOf (d .handle); answer = d .out .answer; range = struct (d .out .found); old = struct (d .out .old) }
 
--- A refusal: the handles given and ranges (0, 0).
-abbrev pub refusedBy : Pair → ℕ → Changed
-refusedBy p n = record { pair = p; answer = n; range = rangeOf 0 0 }
+-- 5: the set-up of a land is bad, or their arenas differ. 6: a land is not sound, or a byte is in both.
+abbrev pub setUp : Pair → List ℕ → List ℕ → Bool
+setUp p ws vs = list.setUp (p .list) ws && (block.setUp (p .block) vs && sameArena (p .list) (p .block))
 
-abbrev pub foundNone : Pair → ℕ → Found
-foundNone p n = record { pair = p; answer = n; range = rangeOf 0 0; old = rangeOf 0 0 }
+abbrev pub sound : Pair → List ℕ → List ℕ → Bool
+sound p ws vs =
+    list.sound (p .list) ws && (block.sound (p .block) vs && not (meet (list.walkOf (p .list) ws .met) (block.tableOf (p .block) vs)))

@@ -5,7 +5,7 @@ use mathlib.Core.List.{List, []}
 use mathlib.Core.Option.{some}
 use mathlib.Core.Path.{_≡_}
 use lib.ListN.{length, getD}
-use Rattle.model.specs.Lists.{marksOf}
+use Rattle.model.specs.Marks.{marksOf}
 use Rattle.model.specs.Calls.{Arena, Outcome}
 use Rattle.model.specs.Layouts.{Layout, with-host}
 use Rattle.model.specs.Histories.{Seen, History}

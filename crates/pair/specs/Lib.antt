@@ -1,8 +1,4 @@
 pub mod Calls
 pub mod Right
 pub mod Demand
-pub mod Parts
-pub mod Editing
-pub mod Inserts
-pub mod Deletes
-pub mod Finding
+pub mod inner

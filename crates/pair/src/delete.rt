@@ -14,9 +14,9 @@ use units::Range;
 use units::RangeCheck;
 ghost use mathlib.Core.Path.{_≡_};
 ghost use Rattle.pair.specs.Calls.{changed, deleted};
-ghost use Rattle.pair.specs.Parts.{Checked};
-ghost use Rattle.list_land.specs.Parts.{reachLimit};
-ghost use Rattle.pair.specs.Deletes.{begins, Asked, Unlisted, Spilling, Nowhere};
+ghost use Rattle.pair.specs.inner.Parts.{Checked};
+ghost use Rattle.list_land.specs.inner.Parts.{reachLimit};
+ghost use Rattle.pair.specs.inner.Deletes.{begins, Asked, Unlisted, Spilling, Nowhere};
 
 // Whether there is a range, and it begins at or below the request.
 fn begins_below(range: Range, here: Range) -> bool

@@ -8,7 +8,7 @@ ghost use Rattle.list_words.specs.Laying.{lay};
 ghost use Rattle.list_land.specs.Layout as list-layout;
 ghost use Rattle.block_words.specs.Words.{fill};
 ghost use Rattle.block_land.specs.Layout as block-layout;
-ghost use Rattle.pair.specs.Editing.{listLess, tableLess, TakingListed, TakingTabled};
+ghost use Rattle.pair.specs.inner.Editing.{listLess, tableLess, TakingListed, TakingTabled};
 
 // Takes a part out of the range at a spot of a sound list.
 pub(crate) fn take_listed(list: ListLand, words: &mut [u64], range: Range, spot: Spot) -> ListLand

@@ -23,8 +23,8 @@ ghost use Rattle.block_land.specs.Calls as block;
 ghost use Rattle.block_land.specs.Layout.{arenaOf};
 ghost use Rattle.pair_model.specs.Pairs.{list-first};
 ghost use Rattle.pair.specs.Calls.{found, foundOf};
-ghost use Rattle.pair.specs.Parts.{Checked};
-ghost use Rattle.pair.specs.Finding.{findAim, Ordered, sideOf, ListChosen, BlockChosen, listFound, blockFound};
+ghost use Rattle.pair.specs.inner.Parts.{Checked};
+ghost use Rattle.pair.specs.inner.Finding.{findAim, Ordered, sideOf, ListChosen, BlockChosen, listFound, blockFound};
 
 // The land whose range is taken.
 pub enum Side {

@@ -12,13 +12,13 @@ use units::Range;
 use units::RangeCheck;
 use units::Size;
 ghost use mathlib.Core.Path.{_≡_};
-ghost use Rattle.list_land.specs.Parts.{reachBase};
-ghost use Rattle.block_words.specs.Surveys as places;
+ghost use Rattle.list_land.specs.inner.Parts.{reachBase};
+ghost use Rattle.block_words.specs.inner.Surveys as places;
 ghost use Rattle.flush.specs.Flush.{checkOf};
 ghost use Rattle.flush.specs.declared.FlushCheck.the-variants.{Good};
 ghost use Rattle.pair.specs.Calls.{changed, inserted};
-ghost use Rattle.pair.specs.Parts.{Checked};
-ghost use Rattle.pair.specs.Inserts.{flushedCounts, flushedNodes, closedBy, Roomless, Open, enterList, enterWords, entered, enteredWords, enteredNodes, takenIn, Wanted, Bare, Placed};
+ghost use Rattle.pair.specs.inner.Parts.{Checked};
+ghost use Rattle.pair.specs.inner.Inserts.{flushedCounts, flushedNodes, closedBy, Roomless, Open, enterList, enterWords, entered, enteredWords, enteredNodes, takenIn, Wanted, Bare, Placed};
 
 // What an insert works on until it closes both handles: the chain of the list, the ranges and the bytes of the table.
 pub struct Counts {

@@ -21,9 +21,9 @@ use units::SetUp;
 use units::Soundness;
 ghost use mathlib.Core.Bool.{true};
 ghost use mathlib.Core.Path.{_≡_};
-ghost use Rattle.pair.specs.Calls.{refusedBy, foundNone};
 ghost use Rattle.units.specs.Rules.{setUpOf};
-ghost use Rattle.pair.specs.Parts.{setUp, checkOf};
+ghost use Rattle.pair.specs.Calls.{setUp};
+ghost use Rattle.pair.specs.inner.Parts.{checkOf, refusedBy, foundNone};
 
 // The handles of both lands.
 #[repr(C)]

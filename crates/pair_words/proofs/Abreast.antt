@@ -1,8 +1,8 @@
 -- A list walked beside a table: where it starts, one range further on, at an overlap and at the end. Assumes nothing.
-use Prim.Native.Nat.{ℕ, _+_, _-_, _≤_}
+use Prim.Native.Nat.{ℕ, _+_, _-_}
 use mathlib.Core.Bool.{Bool, true, false, not}
-use mathlib.Core.List.{List, [], _∷_}
-use mathlib.Core.Path.{_≡_, refl, sym, ap, subst, _∙_}
+use mathlib.Core.List.{List, _∷_}
+use mathlib.Core.Path.{_≡_, sym, ap, subst, _∙_}
 use native.Mathlib.Omega.{arith}
 use lib.Dec.{eqb}
 use lib.ListN.{length}
@@ -11,18 +11,18 @@ use Rattle.units.specs.declared.Addr.{Addr}
 use Rattle.units.specs.declared.Range as units
 use Rattle.units.specs.declared.rules.Arena.{Arena}
 use Rattle.model.specs.Marks.{Range, rng, struct}
-use Rattle.model.specs.Lists.{Apart}
+use Rattle.model.specs.inner.Lists.{Apart}
 use Rattle.list_words.specs.Words.{Walk, clean, walkFrom, stepAt}
-use Rattle.list_words.specs.Surveys.{Ready, walkIn, walkOf, startAt, onward, Along}
+use Rattle.list_words.specs.inner.Surveys.{Ready, walkIn, walkOf, startAt, onward, Along}
 use Rattle.list_words.specs.declared.Met.{Met}
 use Rattle.list_words.specs.declared.cursor.Cursor.{Cursor}
 use Rattle.list_words.proofs.Going.{along-done, met-here}
 use Rattle.list_words.proofs.Meeting.{walk-mets}
 use Rattle.block_words.specs.Words.{pairs}
-use Rattle.block_words.specs.Tallies.{behind}
-use Rattle.block_words.specs.Surveys.{Rising}
+use Rattle.block_words.specs.inner.Tallies.{behind}
+use Rattle.block_words.specs.inner.Surveys.{Rising}
 use Rattle.pair_model.specs.PairLayouts.{meet}
-use Rattle.pair_words.specs.Besides.{besideOf, Abreast}
+use Rattle.pair_words.specs.inner.Besides.{besideOf, Abreast}
 use Rattle.pair_words.specs.declared.walks.Beside.{Beside}
 use Rattle.pair_words.proofs.Besides.{Kept, Keeps, placed-keeps, Says, placed-says}
 

@@ -11,12 +11,12 @@ use Rattle.units.specs.declared.Range as units
 use Rattle.units.proofs.Tests.{by}
 use Rattle.units.proofs.Ways.{said-true, said-false}
 use Rattle.model.specs.Marks.{Range, struct, plain}
-use Rattle.model.specs.Lists.{Apart}
+use Rattle.model.specs.inner.Lists.{Apart}
 use Rattle.block_words.specs.Words.{capacity}
-use Rattle.block_words.specs.Tallies.{pairAt, behind}
+use Rattle.block_words.specs.inner.Tallies.{pairAt, behind}
 use Rattle.block_words.proofs.Pairs.{pairs-at, pairs-end}
 use Rattle.pair_model.specs.PairLayouts.{meet}
-use Rattle.pair_words.specs.Besides.{besideOf, besideNumber}
+use Rattle.pair_words.specs.inner.Besides.{besideOf, besideNumber}
 use Rattle.pair_words.specs.declared.walks.Beside.{Beside}
 use Rattle.pair_words.proofs.Meets.{meet-none, meet-pair, meet-range, meet-both}
 

@@ -1,13 +1,13 @@
 -- The walk beside a table that only judges, and the ways out of `survey`. Assumes nothing.
 use Prim.Native.Nat.{ℕ, _+_, _-_, _<_}
-use mathlib.Core.Bool.{Bool, true, false, not, _&&_, and-false, and-true}
+use mathlib.Core.Bool.{Bool, true, false, not, and-false, and-true}
 use mathlib.Core.List.{List, [], _∷_}
 use mathlib.Core.Path.{_≡_, sym, ap, _∙_}
 use types.Run.{OneOf}
 use denote.Enum.Declared.{tagOf}
 use lib.Dec.{eqb}
 use lib.ListN.{length}
-use Rattle.units.specs.Aims.{keepsFirst}
+use Rattle.units.specs.inner.Aims.{keepsFirst}
 use Rattle.units.specs.Rules.{soundnessOf}
 use Rattle.units.specs.Words.{rangeOf}
 use Rattle.units.specs.declared.Addr.{Addr}
@@ -19,8 +19,8 @@ use Rattle.units.proofs.Cases.{sound-true, sound-false}
 use Rattle.units.proofs.Tests.{by, and-left}
 use Rattle.units.proofs.Ways.{said-true}
 use Rattle.list_words.specs.Words.{Walk, clean, stepAt, soundWalk}
-use Rattle.list_words.specs.Seeks.{Come}
-use Rattle.list_words.specs.Surveys.{Ready, walkOf, onward, countsOf, Near, Along, kept-of}
+use Rattle.list_words.specs.inner.Seeks.{Come}
+use Rattle.list_words.specs.inner.Surveys.{Ready, walkOf, onward, countsOf, Near, Along, kept-of}
 use Rattle.list_words.specs.declared.Chain.{Chain}
 use Rattle.list_words.specs.declared.Met.{Met}
 use Rattle.list_words.specs.declared.Spot.{Spot}
@@ -30,9 +30,9 @@ use Rattle.list_words.proofs.Met.{the-type}
 use Rattle.list_words.proofs.Going.{sound-not, sound-counts, along-broken, along-near, along-next, along-less, along-done}
 use Rattle.list_words.proofs.Surveying.{sound-clean}
 use Rattle.block_words.specs.Words.{pairs}
-use Rattle.block_words.specs.Tallies.{behind}
+use Rattle.block_words.specs.inner.Tallies.{behind}
 use Rattle.pair_model.specs.PairLayouts.{meet}
-use Rattle.pair_words.specs.Besides.{besideOf, Abreast, SoughtBeside, soundBeside, surveyBeside}
+use Rattle.pair_words.specs.inner.Besides.{besideOf, Abreast, SoughtBeside, soundBeside, surveyBeside}
 use Rattle.pair_words.specs.declared.walks.Beside.{Beside}
 use Rattle.pair_words.specs.declared.walks.Sought.{Sought}
 use Rattle.pair_words.proofs.Abreast.{abreast-done, abreast-overlaps, abreast-next}

@@ -7,7 +7,7 @@ use types.Run.{OneOf}
 use denote.Enum.Declared.{tagOf}
 use lib.Dec.{eqb}
 use lib.ListN.{length}
-use Rattle.units.specs.Aims.{none-range, keepsFirst, fits}
+use Rattle.units.specs.inner.Aims.{none-range, keepsFirst, fits}
 use Rattle.units.specs.Words.{addr, rangeOf}
 use Rattle.units.specs.declared.Addr.{Addr}
 use Rattle.units.specs.declared.Range.{Range}
@@ -18,8 +18,8 @@ use Rattle.units.specs.declared.aims.Goal.{Goal}
 use Rattle.units.specs.declared.rules.Arena.{Arena}
 use Rattle.units.proofs.Fitting.{goalOf, goal-of-nothing, goal-of-reach, goal-of-from, goal-of-find}
 use Rattle.list_words.specs.Words.{stepAt}
-use Rattle.list_words.specs.Seeks.{sought}
-use Rattle.list_words.specs.Surveys.{Ready, spot, startAt, onward, Near, Along, kept-of}
+use Rattle.list_words.specs.inner.Seeks.{sought}
+use Rattle.list_words.specs.inner.Surveys.{Ready, spot, startAt, onward, Near, Along, kept-of}
 use Rattle.list_words.specs.declared.Met.{Met}
 use Rattle.list_words.specs.declared.Spot.{Spot}
 use Rattle.list_words.specs.declared.cursor.Cursor.{Cursor}
@@ -28,9 +28,9 @@ use Rattle.list_words.proofs.Met.{the-type}
 use Rattle.list_words.proofs.Going.{along-near, along-less}
 use Rattle.list_words.proofs.Seeking.{Seeking, seek-start, seek-broken, seek-order, seek-at, seek-next, seek-end}
 use Rattle.list_words.proofs.Staying.{first-kept}
-use Rattle.block_words.specs.Tallies.{behind}
-use Rattle.block_words.specs.Surveys.{Rising}
-use Rattle.pair_words.specs.Besides.{besideOf, Abreast, SoughtBeside}
+use Rattle.block_words.specs.inner.Tallies.{behind}
+use Rattle.block_words.specs.inner.Surveys.{Rising}
+use Rattle.pair_words.specs.inner.Besides.{besideOf, Abreast, SoughtBeside}
 use Rattle.pair_words.specs.declared.walks.Beside.{Beside}
 use Rattle.pair_words.specs.declared.walks.Sought.{Sought}
 use Rattle.pair_words.proofs.Abreast.{abreast-start, abreast-overlaps, abreast-next}

@@ -7,7 +7,7 @@ use types.Run.{OneOf}
 use denote.Enum.Declared.{tagOf}
 use lib.Dec.{eqb}
 use lib.ListN.{length}
-use Rattle.units.specs.Aims.{none-range, takes, Sized}
+use Rattle.units.specs.inner.Aims.{none-range, takes, Sized}
 use Rattle.units.specs.Rules.{soundnessOf}
 use Rattle.units.specs.Words.{addr, rangeOf}
 use Rattle.units.specs.declared.Addr.{Addr}
@@ -18,7 +18,7 @@ use Rattle.units.specs.declared.rules.Soundness.{Soundness}
 use Rattle.units.proofs.Cases.{sound-true, sound-false}
 use Rattle.model.specs.Marks as marks
 use Rattle.list_words.specs.Words.{stepAt, soundWalk}
-use Rattle.list_words.specs.Surveys.{Ready, walkOf, spot, startAt, onward, countsOf, at-end, keeping, Near}
+use Rattle.list_words.specs.inner.Surveys.{Ready, walkOf, spot, startAt, onward, countsOf, at-end, keeping, Near}
 use Rattle.list_words.specs.declared.Chain.{Chain}
 use Rattle.list_words.specs.declared.Met.{Met}
 use Rattle.list_words.specs.declared.Spot.{Spot}
@@ -27,9 +27,9 @@ use Rattle.list_words.specs.declared.cursor.Cursor.{Cursor}
 use Rattle.list_words.proofs.Met.{the-type}
 use Rattle.list_words.proofs.Going.{sound-counts, along-broken, along-near, along-less, along-done}
 use Rattle.list_words.proofs.Weighing.{Weighing, weigh-start, weigh-sized, weigh-taken, weigh-left}
-use Rattle.block_words.specs.Tallies.{behind}
-use Rattle.block_words.specs.Surveys.{Rising}
-use Rattle.pair_words.specs.Besides.{besideOf, Abreast, surveyBeside}
+use Rattle.block_words.specs.inner.Tallies.{behind}
+use Rattle.block_words.specs.inner.Surveys.{Rising}
+use Rattle.pair_words.specs.inner.Besides.{besideOf, Abreast, surveyBeside}
 use Rattle.pair_words.specs.declared.walks.Beside.{Beside}
 use Rattle.pair_words.proofs.Abreast.{abreast-start, abreast-done, abreast-overlaps, abreast-next}
 use Rattle.pair_words.proofs.Judging.{unsound, broken, overlapping, apart, damaged, undamaged}

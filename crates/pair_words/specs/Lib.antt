@@ -1,3 +1,1 @@
-pub mod Shares
-pub mod Lefts
-pub mod Besides
+pub mod inner

@@ -13,11 +13,11 @@ ghost use mathlib.Core.Bool.{cond};
 ghost use mathlib.Core.Path.{_≡_};
 ghost use lib.Dec.{leb};
 ghost use Rattle.units.specs.declared.aims.Aim.{Aim};
-ghost use Rattle.list_words.specs.Surveys.{walkOf, kept-of};
+ghost use Rattle.list_words.specs.inner.Surveys.{walkOf, kept-of};
 ghost use Rattle.block_words.specs.Words.{pairs};
 ghost use Rattle.pair_model.specs.Pairs.{inside};
-ghost use Rattle.pair_words.specs.Shares.{share, Listed, Tabled};
-ghost use Rattle.pair_words.specs.Lefts.{Left};
+ghost use Rattle.pair_words.specs.inner.Shares.{share, Listed, Tabled};
+ghost use Rattle.pair_words.specs.inner.Lefts.{Left};
 
 // The higher and the lower of two addresses.
 fn higher(x: Addr, y: Addr) -> Addr

@@ -15,14 +15,14 @@ ghost use Prim.Native.Nat.{_≤_};
 ghost use mathlib.Core.Bool.{true};
 ghost use mathlib.Core.Path.{_≡_};
 ghost use lib.ListN.{length};
-ghost use Rattle.units.specs.Aims.{none-range, keepsFirst};
+ghost use Rattle.units.specs.inner.Aims.{none-range, keepsFirst};
 ghost use Rattle.units.specs.Rules.{soundnessOf};
-ghost use Rattle.list_words.specs.Seeks.{sought};
-ghost use Rattle.list_words.specs.Surveys.{Ready, Along, kept-of};
+ghost use Rattle.list_words.specs.inner.Seeks.{sought};
+ghost use Rattle.list_words.specs.inner.Surveys.{Ready, Along, kept-of};
 ghost use Rattle.block_words.specs.Words.{capacity};
-ghost use Rattle.block_words.specs.Tallies.{behind};
-ghost use Rattle.block_words.specs.Surveys.{Rising};
-ghost use Rattle.pair_words.specs.Besides.{besideOf, Abreast, SoughtBeside, soundBeside, surveyBeside};
+ghost use Rattle.block_words.specs.inner.Tallies.{behind};
+ghost use Rattle.block_words.specs.inner.Surveys.{Rising};
+ghost use Rattle.pair_words.specs.inner.Besides.{besideOf, Abreast, SoughtBeside, soundBeside, surveyBeside};
 
 // Where a range stands beside a table: it overlaps a pair; or before the first pair that ends above its base, or behind all.
 pub enum Beside {

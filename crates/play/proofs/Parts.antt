@@ -11,7 +11,7 @@ use Rattle.script.specs.declared.Fed.{Fed}
 use Rattle.script.specs.declared.Script.{Script}
 use Rattle.script.proofs.RunsExist.{to-print, prints-less}
 use Rattle.script.proofs.StillPrints.{feeds, uses-one}
-use Rattle.play.specs.Steps.{Still, Stills}
+use Rattle.play.specs.inner.Steps.{Still, Stills}
 use Rattle.play.specs.declared.Step.{Step}
 
 abbrev part : List ℕ → ℕ → List ℕ

@@ -7,7 +7,7 @@ use script::Script;
 use streams::Input;
 ghost use Prim.Native.Nat.{_≤_};
 ghost use lib.ListN.{length};
-ghost use Rattle.play.specs.Steps.{Still, Stills};
+ghost use Rattle.play.specs.inner.Steps.{Still, Stills};
 
 // Where the program stands after some bytes: it goes on, the input has ended, or what it prints is no longer taken.
 pub enum Step {

@@ -17,9 +17,9 @@ use Rattle.list_land.specs.declared.ListLand.{ListLand}
 use Rattle.list_land.proofs.Land.{list-land}
 use Rattle.lines.specs.declared.Request.{Request}
 use Rattle.texts.specs.Decimal.{line}
-use Rattle.texts.specs.Writing.{Wrote}
+use Rattle.texts.specs.inner.Writing.{Wrote}
 use Rattle.script.specs.Printed.{question, changed-turn, found-turn, land-turn}
-use Rattle.script.specs.Feeding.{Says, Plays}
+use Rattle.script.specs.inner.Feeding.{Says, Plays}
 use Rattle.script.specs.declared.Stage.{Stage}
 use Rattle.script.specs.declared.Turn.{Turn}
 use Rattle.script.proofs.Ways.{says}

@@ -4,13 +4,13 @@ use mathlib.Core.Bool.{true}
 use mathlib.Core.List.{List, [], _∷_, _++_}
 use mathlib.Core.Path.{_≡_, refl}
 use Rattle.lines.specs.Requests.{newline, split, every}
-use Rattle.lines.specs.Reading.{at-start, read-more, request-in, in-line}
+use Rattle.lines.specs.inner.Reading.{at-start, read-more, request-in, in-line}
 use Rattle.lines.specs.declared.Reader.{Reader}
 use Rattle.lines.proofs.Pieces.{glue, split-some, split-part}
 use Rattle.lines.proofs.Requesting.{reading}
 use Rattle.lines.proofs.Running.{read-more-append, begun-some}
 use Rattle.script.specs.Printed.{turn-of, then-print, printed}
-use Rattle.script.specs.Feeding.{printed-from}
+use Rattle.script.specs.inner.Feeding.{printed-from}
 use Rattle.script.specs.declared.Stage.{Stage}
 
 -- from the start of a line it is what is printed for the lines

@@ -10,15 +10,14 @@ use lib.Dec.{leb}
 use Rattle.units.proofs.Tests.{by, tests}
 use Rattle.model.specs.Calls.{accepted, walk}
 use Rattle.model.specs.Layouts.{fault, holding}
-use Rattle.model.specs.Lists.{Apart}
+use Rattle.model.specs.inner.Lists.{Apart}
 use Rattle.model.specs.Marks.{Range, rng}
 use Rattle.model.specs.Reference.{from}
-use Rattle.model.specs.Steps.{next-from}
+use Rattle.model.specs.inner.Steps.{next-from}
 use Rattle.model.proofs.Choosing.{none-some}
 use Rattle.model.proofs.Finding.{walk-visits}
 use Rattle.model.proofs.Outcomes.{stays, call-fault, call-refused, call-accepted}
 use Rattle.list_words.specs.Laying.{lay}
-use Rattle.list_words.proofs.Laid.{lay-laid}
 use Rattle.list_land.specs.Calls.{walked}
 use Rattle.list_land.specs.Layout.{base, limit, arenaOf, setUp, sound, readOf, walkOf, closed, layout}
 use Rattle.list_land.specs.declared.ListLand.{ListLand}

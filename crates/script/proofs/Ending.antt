@@ -6,11 +6,11 @@ use mathlib.Core.Path.{_≡_, refl, sym, ap, _∙_}
 use native.Mathlib.Omega.{arith}
 use borrow.Author.Tests.{le-leb, lt-leb}
 use lib.ListN.{length, take, drop, take-append-drop}
-use Rattle.lines.specs.Reading.{begun-in}
-use Rattle.texts.specs.Writing.{Wrote}
+use Rattle.lines.specs.inner.Reading.{begun-in}
+use Rattle.texts.specs.inner.Writing.{Wrote}
 use Rattle.texts.proofs.Writing.{wrote-then}
 use Rattle.script.specs.Calls.{fedOf, over, told, tell-stage, end-text, ended, is-describing}
-use Rattle.script.specs.Feeding.{Tells}
+use Rattle.script.specs.inner.Feeding.{Tells}
 use Rattle.script.specs.declared.Script.{Script}
 use Rattle.script.specs.declared.Turn.{Turn}
 

@@ -9,7 +9,7 @@ use lib.Dec.{eqb}
 use lib.ListN.{length, drop}
 use Rattle.units.proofs.Tests.{and-left, and-right}
 use Rattle.lines.specs.Requests.{newline, every}
-use Rattle.lines.specs.Reading.{read-more, request-in, in-line}
+use Rattle.lines.specs.inner.Reading.{read-more, request-in, in-line}
 use Rattle.script.specs.Printed.{turn-of}
 use Rattle.script.specs.Calls.{Done, behind, at-rest, with-byte, answered, fed, is-ready}
 use Rattle.lines.specs.declared.Reader.{Reader}

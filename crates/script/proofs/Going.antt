@@ -9,14 +9,14 @@ use lib.ListN.{length, take, drop, take-append-drop, length-drop, drop-of-length
 use lib.Seq.{drop-cons, drop-drop, length-take-le}
 use Rattle.units.proofs.Tests.{clash, and-left}
 use Rattle.lines.specs.Requests.{newline}
-use Rattle.lines.specs.Reading.{ReadTo, at-start, request-in}
+use Rattle.lines.specs.inner.Reading.{ReadTo, at-start, request-in}
 use Rattle.lines.specs.declared.Read.{Read}
 use Rattle.lines.specs.declared.Reader.{Reader}
 use Rattle.lines.specs.declared.Request.{Request}
 use Rattle.texts.proofs.Writing.{same-behind}
 use Rattle.script.specs.Printed.{turn-of}
 use Rattle.script.specs.Calls.{Done, fedOf, over, behind, at-rest, fed, is-ready, script-start}
-use Rattle.script.specs.Feeding.{Plays, Goes, Moves}
+use Rattle.script.specs.inner.Feeding.{Plays, Goes, Moves}
 use Rattle.script.specs.declared.Fed.{Fed}
 use Rattle.script.specs.declared.Script.{Script}
 use Rattle.script.specs.declared.Stage.{Stage}

@@ -9,7 +9,7 @@ use lib.ListN.{length, take, drop, length-append, length-drop, length-take}
 use Rattle.units.proofs.Tests.{by, clash}
 use Rattle.script.specs.Printed.{pending}
 use Rattle.script.specs.Calls.{fed, told, is-describing, is-ready}
-use Rattle.script.specs.Feeding.{rest-of}
+use Rattle.script.specs.inner.Feeding.{rest-of}
 use Rattle.script.specs.Runs.{Run, part, description, end, HasRun}
 use Rattle.script.specs.declared.Script.{Script}
 use Rattle.script.specs.declared.Stage.{Stage}

@@ -7,7 +7,7 @@ use lib.ListN.{take, drop, take-append-drop}
 use lib.Seq.{drop-append-le}
 use Rattle.lines.specs.Requests.{newline, split}
 use Rattle.script.specs.Calls.{fed, told}
-use Rattle.script.specs.Feeding.{rest-of}
+use Rattle.script.specs.inner.Feeding.{rest-of}
 use Rattle.script.specs.Runs.{Run, part, description, end, PrintsWhole}
 use Rattle.script.specs.declared.Script.{Script}
 use Rattle.script.specs.declared.Stage.{Stage}

@@ -14,13 +14,13 @@ use Rattle.model.specs.Marks.{Range}
 use Rattle.list_land.specs.Layout.{readOf}
 use Rattle.list_land.specs.declared.ListLand.{ListLand}
 use Rattle.lines.specs.Requests.{newline, split}
-use Rattle.lines.specs.Reading.{at-start, request-in}
+use Rattle.lines.specs.inner.Reading.{at-start, request-in}
 use Rattle.lines.specs.declared.Reader.{Reader}
 use Rattle.texts.specs.Decimal.{line}
 use Rattle.texts.proofs.Writing.{line-some}
 use Rattle.script.specs.Printed.{turn-of, pending, settled, range-lines, ranges-from, arena-words}
 use Rattle.script.specs.Calls.{Done, Told, behind, with-byte, fed, told, tell, is-describing, is-ready}
-use Rattle.script.specs.Feeding.{printed-from, rest-of}
+use Rattle.script.specs.inner.Feeding.{printed-from, rest-of}
 use Rattle.script.specs.declared.Script.{Script}
 use Rattle.script.specs.declared.Stage.{Stage}
 use Rattle.script.proofs.Continuing.{after-part, after-newline}

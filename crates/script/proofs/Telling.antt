@@ -13,11 +13,11 @@ use Rattle.list_land.specs.Layout.{readOf}
 use Rattle.list_land.specs.declared.Changed.{Changed}
 use Rattle.list_land.specs.declared.ListLand.{ListLand}
 use Rattle.texts.specs.Decimal.{line}
-use Rattle.texts.specs.Writing.{Wrote}
+use Rattle.texts.specs.inner.Writing.{Wrote}
 use Rattle.texts.proofs.Writing.{line-some, same-behind}
 use Rattle.script.specs.Printed.{ranges-from, arena-words}
 use Rattle.script.specs.Calls.{Told, onto, tell, tell-stage}
-use Rattle.script.specs.Feeding.{Fits, Tells}
+use Rattle.script.specs.inner.Feeding.{Fits, Tells}
 use Rattle.script.specs.declared.Stage.{Stage}
 use Rattle.script.specs.declared.Turn.{Turn}
 use Rattle.script.proofs.Buffers.{text-end, text-over}

@@ -18,10 +18,10 @@ use Rattle.list_land.specs.declared.Opened.{Opened}
 use Rattle.lines.specs.declared.Request.{Request}
 use Rattle.lines.proofs.Request as request-type
 use Rattle.texts.specs.Decimal.{decimal}
-use Rattle.texts.specs.Writing.{Wrote}
+use Rattle.texts.specs.inner.Writing.{Wrote}
 use Rattle.texts.proofs.Writing.{wrote-last}
 use Rattle.script.specs.Printed.{Turned, question, land-turn, arena-turn, on-first, arena-words, call-turn, turn-of}
-use Rattle.script.specs.Feeding.{Fits, Says, Plays}
+use Rattle.script.specs.inner.Feeding.{Fits, Says, Plays}
 use Rattle.script.specs.declared.Stage.{Stage}
 use Rattle.script.specs.declared.Turn.{Turn}
 use Rattle.script.proofs.Ways.{says}

@@ -12,10 +12,10 @@ use Rattle.units.proofs.Tests.{tests}
 use Rattle.list_land.specs.declared.Changed.{Changed}
 use Rattle.list_land.specs.declared.Found.{Found}
 use Rattle.texts.specs.Decimal.{decimal, line}
-use Rattle.texts.specs.Writing.{Wrote}
+use Rattle.texts.specs.inner.Writing.{Wrote}
 use Rattle.texts.proofs.Writing.{wrote-then, wrote-line}
 use Rattle.script.specs.Printed.{question}
-use Rattle.script.specs.Feeding.{Fits, Says}
+use Rattle.script.specs.inner.Feeding.{Fits, Says}
 use Rattle.script.specs.declared.Stage.{Stage}
 use Rattle.script.specs.declared.Turn.{Turn}
 

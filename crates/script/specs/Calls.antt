@@ -10,7 +10,7 @@ use Rattle.model.specs.Marks.{Range}
 use Rattle.list_land.specs.Layout.{readOf}
 use Rattle.list_land.specs.declared.ListLand.{ListLand}
 use Rattle.lines.specs.Requests.{newline}
-use Rattle.lines.specs.Reading.{at-start, next-of, request-in, begun-in}
+use Rattle.lines.specs.inner.Reading.{at-start, next-of, request-in, begun-in}
 use Rattle.texts.specs.Decimal.{line}
 use Rattle.script.specs.Printed.{Turned, question, turn-of, ranges-from, arena-words}
 use Rattle.script.specs.declared.Fed.{Fed}

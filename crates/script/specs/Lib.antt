@@ -1,5 +1,5 @@
 pub mod Printed
 pub mod Calls
-pub mod Feeding
 pub mod Runs
 pub mod Sample
+pub mod inner

@@ -7,8 +7,7 @@ use lib.ListN.{length, take, drop, replicate}
 use Rattle.units.specs.Words.{wordNumber}
 use Rattle.units.specs.declared.Addr.{Addr}
 use Rattle.units.specs.declared.Align.{Align}
-use Rattle.model.specs.Marks.{Range}
-use Rattle.model.specs.Lists.{total}
+use Rattle.model.specs.Marks.{Range, total}
 use Rattle.model.specs.Reference.{from}
 use Rattle.model.specs.Layouts.{Reading, fault, holding}
 use Rattle.list_land.specs.Layout.{base, limit, readOf}

@@ -10,7 +10,7 @@ ghost use mathlib.Core.Path.{_≡_};
 ghost use Prim.Native.Nat.{_≤_, _<_};
 ghost use lib.ListN.{length};
 ghost use Rattle.script.specs.Calls.{fedOf, fed, told, ended, over, is-describing, script-start};
-ghost use Rattle.script.specs.Feeding.{Goes, Moves};
+ghost use Rattle.script.specs.inner.Feeding.{Goes, Moves};
 
 // No arena yet; a land; or a land with a description that goes on from an address.
 pub enum Stage {

@@ -18,7 +18,7 @@ ghost use Rattle.script.specs.Printed.{question, arena-turn, land-turn, 
 ghost use Rattle.lines.specs.declared.Request.{Request as Request·};
 ghost use Rattle.script.specs.declared.Stage.{Stage as Stage·};
 ghost use Rattle.script.specs.Calls.{is-describing, is-ready, tell, tell-stage};
-ghost use Rattle.script.specs.Feeding.{Fits, Says, Plays, Tells};
+ghost use Rattle.script.specs.inner.Feeding.{Fits, Says, Plays, Tells};
 
 // The number of words between two addresses.
 fn words_between(base: Addr, limit: Addr) -> usize

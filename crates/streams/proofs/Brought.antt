@@ -3,7 +3,7 @@ use Prim.Native.Nat.{ℕ, _≤_}
 use mathlib.Core.List.{List}
 use mathlib.Core.Path.{_≡_}
 use lib.ListN.{length, take}
-use Rattle.streams.specs.Inputs.{Holds}
+use Rattle.streams.specs.inner.Inputs.{Holds}
 use Rattle.streams.specs.declared.Input.{Input}
 
 module _ (r : Input) (n : ℕ) (buf : List ℕ) (e : r ≡ Input.Bytes n) (h : Holds r buf) where

@@ -5,7 +5,7 @@
 // can say. A call is tried again 2^64 - 1 times at most, since every loop has to end.
 ghost use Prim.Native.Nat.{_≤_};
 ghost use lib.ListN.{length};
-ghost use Rattle.streams.specs.Inputs.{Holds};
+ghost use Rattle.streams.specs.inner.Inputs.{Holds};
 
 // What a read brought: so many bytes, one at least, at the start of the buffer; the end of the input; or a failure.
 pub enum Input {

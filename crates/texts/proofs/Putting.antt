@@ -6,7 +6,7 @@ use native.Mathlib.Omega.{arith}
 use lib.ListN.{length, take, drop, getD, set, length-set}
 use lib.Seq.{length-take-le, take-suc, append-snoc, set-at, take-set-le, take-set-lt, drop-set-lt}
 use Rattle.texts.specs.Decimal.{decimal}
-use Rattle.texts.specs.Writing.{Wrote}
+use Rattle.texts.specs.inner.Writing.{Wrote}
 use Rattle.texts.proofs.Decimal.{decimal-some, decimal-most}
 use Rattle.texts.proofs.Writing.{wrote-byte, wrote-then}
 use Rattle.texts.proofs.Spelling.{Front, front-start, front-next, front-done, front-longer}

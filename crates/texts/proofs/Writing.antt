@@ -6,7 +6,7 @@ use native.Mathlib.Omega.{arith}
 use lib.ListN.{length, take, drop, set, length-set, length-append}
 use lib.Seq.{take-suc-set, append-snoc, drop-set-lt, drop-drop}
 use Rattle.texts.specs.Decimal.{decimal, line}
-use Rattle.texts.specs.Writing.{Wrote}
+use Rattle.texts.specs.inner.Writing.{Wrote}
 use Rattle.texts.proofs.Decimal.{decimal-some}
 
 pub wrote-byte : (b : List ℕ) (at v r : ℕ) → at + 1 ≤ length b → r ≡ at + 1 → Wrote 1 b at (v ∷ []) (set b at v) r

@@ -6,7 +6,7 @@ ghost use mathlib.Core.List.{[], _∷_, _++_};
 ghost use Prim.Native.Nat.{_+_, _≤_, _<_};
 ghost use lib.ListN.{length};
 ghost use Rattle.texts.specs.Decimal.{decimal, line};
-ghost use Rattle.texts.specs.Writing.{Wrote};
+ghost use Rattle.texts.specs.inner.Writing.{Wrote};
 
 // How many digits a number has.
 fn places(n: u64) -> usize

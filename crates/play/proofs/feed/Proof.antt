@@ -5,7 +5,7 @@ use native.Mathlib.Omega.{arith}
 use denote.Ref.{now}
 use lib.ListN.{length}
 use borrow.Author.Needs.{needs}
-use Rattle.play.specs.Steps.{Still}
+use Rattle.play.specs.inner.Steps.{Still}
 use Rattle.play.proofs.Parts.{used-of-part, uses-some, fed-inside, still-more}
 use Rattle.play.proofs.feed.Statement.{statement}
 use Rattle.play.proofs.feed.Tie as tie

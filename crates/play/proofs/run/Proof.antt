@@ -3,7 +3,7 @@ use mathlib.Core.Path.{_≡_, refl}
 use native.Mathlib.Omega.{arith}
 use lib.ListN.{length}
 use borrow.Author.Needs.{needs}
-use Rattle.play.specs.Steps.{Still}
+use Rattle.play.specs.inner.Steps.{Still}
 use Rattle.play.proofs.Parts.{start-still, still-more}
 use Rattle.play.proofs.run.Statement.{statement}
 use Rattle.play.proofs.run.Tie as tie

@@ -1,5 +1,4 @@
 -- `BlockLand::insert` meets its contract: 5, 6, and then the table. Assumes nothing.
-use mathlib.Core.Path.{refl}
 use Rattle.model.specs.Calls.{insert}
 use Rattle.model.proofs.EditAnswers.{edit-5, edit-6}
 use Rattle.model.proofs.Looking.{saw}

@@ -1,5 +1,5 @@
 -- `Pair::enter` meets its contract: into the block land, and where it has no room into the list. Assumes nothing.
-use Rattle.pair.specs.Inserts.{closedBy}
+use Rattle.pair.specs.inner.Inserts.{closedBy}
 use Rattle.pair.proofs.Entering.{enter-sorted, enter-full, enter-room, enter-blocked}
 use borrow.Author.Needs.{needs}
 use Rattle.pair.proofs.Pair.enter.Statement.{statement}

@@ -1,5 +1,5 @@
 -- `Pair::enter_list` meets its contract: the spot that is left, and the range put in. Assumes nothing.
-use Rattle.pair.specs.Inserts.{closedBy}
+use Rattle.pair.specs.inner.Inserts.{closedBy}
 use Rattle.pair.proofs.Entering.{enter-left, enter-asks, enter-listed}
 use borrow.Author.Needs.{needs}
 use Rattle.pair.proofs.Pair.enter_list.Statement.{statement}

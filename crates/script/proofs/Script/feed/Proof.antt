@@ -5,7 +5,7 @@ use mathlib.Core.Path.{_≡_, refl}
 use native.Mathlib.Omega.{arith}
 use borrow.Author.Needs.{needs}
 use lib.ListN.{length}
-use Rattle.script.specs.Feeding.{Goes}
+use Rattle.script.specs.inner.Feeding.{Goes}
 use Rattle.script.proofs.Going.{goes-start, goes-then, closes-all, closes-full}
 use Rattle.script.proofs.Script.feed.Statement.{statement}
 use Rattle.script.proofs.Script.feed.Tie as tie

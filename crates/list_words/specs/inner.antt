@@ -1,0 +1,3 @@
+pub mod Descriptors
+pub mod Surveys
+pub mod Seeks
