@@ -20,7 +20,7 @@ use Rattle.model.proofs.Totals.{total-insert, total-delete}
 use Rattle.block_words.specs.Words.{capacity}
 use Rattle.block_words.specs.declared.Entry.{Entry}
 use Rattle.block_edits.specs.inner.Edits.{editedNumber, edited, editedWords, putOf, putWords, cutOf, cutWords}
-use Rattle.block_edits.specs.declared.Edited.{Edited}
+use Rattle.block_edits.specs.declared.TableEdited.{TableEdited}
 use Rattle.block_edits.proofs.Answered.{edited-number, edited-bad, edited-full, edited-done}
 use Rattle.block_land.specs.Calls.{does, inserted, deleted, changed}
 use Rattle.block_land.specs.Layout.{base, limit, arenaOf, tableOf}
@@ -32,30 +32,30 @@ use Rattle.block_land.proofs.Requests.{readable, closes, whole, few-byt
 
 -- EITHER EDIT
 module _ (h : BlockLand) (ws : List ℕ) (aim : Aim) (d : Entry) (k : Looked h ws aim d) (c : Call) (E : Edits (arenaOf h ws) (tableOf h ws) c) (g : E .good ≡ true) where
-  abbrev Edit : Edited
+  abbrev Edit : TableEdited
   Edit = edited (E .bad) (leb (length (E .new)) (capacity ws)) (E .holds-it) (length (E .new))
 
-  module _ (p : Edited) (vs : List ℕ) (e : (p ≡ Edit) × (vs ≡ editedWords Edit (E .new) ws)) where
+  module _ (p : TableEdited) (vs : List ℕ) (e : (p ≡ Edit) × (vs ≡ editedWords Edit (E .new) ws)) where
     abbrev Gives : Changed → Type 0
     Gives w = (w ≡ changed (does c h ws)) × (vs ≡ does c h ws .words)
 
-    edit-1 : p ≡ Edited.Refused → (w : Changed) → w ≡ refusedBy h 1 → Gives w
+    edit-1 : p ≡ TableEdited.Refused → (w : Changed) → w ≡ refusedBy h 1 → Gives w
     edit-1 f w n =
         let q = sym (e .0) ∙ f in
-        answers.edit-1 block-land h ws aim d k c E g (edited-bad (E .holds-it) (length (E .new)) (E .bad) (leb (length (E .new)) (capacity ws)) q) w n vs (e .1 ∙ ap (λ (x : Edited). editedWords x (E .new) ws) q)
+        answers.edit-1 block-land h ws aim d k c E g (edited-bad (E .holds-it) (length (E .new)) (E .bad) (leb (length (E .new)) (capacity ws)) q) w n vs (e .1 ∙ ap (λ (x : TableEdited). editedWords x (E .new) ws) q)
 
-    edit-3 : p ≡ Edited.Full → (w : Changed) → w ≡ refusedBy h 3 → Gives w
+    edit-3 : p ≡ TableEdited.Full → (w : Changed) → w ≡ refusedBy h 3 → Gives w
     edit-3 f w n =
         let q = sym (e .0) ∙ f in
         let o = edited-full (E .holds-it) (length (E .new)) (E .bad) (leb (length (E .new)) (capacity ws)) q in
-        answers.edit-3 block-land h ws aim d k c E g (o .0) (o .1) w n vs (e .1 ∙ ap (λ (x : Edited). editedWords x (E .new) ws) q)
+        answers.edit-3 block-land h ws aim d k c E g (o .0) (o .1) w n vs (e .1 ∙ ap (λ (x : TableEdited). editedWords x (E .new) ws) q)
 
-    edit-0 : (x : Range) (m : ℕ) → p ≡ Edited.Done x m → (t : Size) → t .0 ≡ total (E .new) → (z : BlockLand) → z ≡ closedWith h m t →
+    edit-0 : (x : Range) (m : ℕ) → p ≡ TableEdited.Done x m → (t : Size) → t .0 ≡ total (E .new) → (z : BlockLand) → z ≡ closedWith h m t →
         Gives (record { land = z; answer = 0; range = x })
     edit-0 x m f t et z ez =
         let q = sym (e .0) ∙ f in
         let o = edited-done (E .holds-it) (length (E .new)) (E .bad) (leb (length (E .new)) (capacity ws)) x m q in
-        answers.edit-0 block-land h ws aim d k c E g (o .good) (o .fits) z (ez ∙ closes h (E .new) m t (o .count) et) x (o .range) vs (e .1 ∙ ap (λ (x : Edited). editedWords x (E .new) ws) q)
+        answers.edit-0 block-land h ws aim d k c E g (o .good) (o .fits) z (ez ∙ closes h (E .new) m t (o .count) et) x (o .range) vs (e .1 ∙ ap (λ (x : TableEdited). editedWords x (E .new) ws) q)
 
   -- the number of an edit is the answer
   number-is : editedNumber Edit ≡ changed (does c h ws) .answer
@@ -76,7 +76,7 @@ module _ (h : BlockLand) (ws : List ℕ) (y : Range) (d : Entry) (k : Looked h w
       let a = whole h ws read .place .arena in
       omega (arith, r .upto, a .top)
 
-  module _ (p : Edited) (vs : List ℕ) (e : (p ≡ putOf ws (h .ranges) y) × (vs ≡ putWords ws (h .ranges) y)) where
+  module _ (p : TableEdited) (vs : List ℕ) (e : (p ≡ putOf ws (h .ranges) y) × (vs ≡ putWords ws (h .ranges) y)) where
     abbrev Inserts : Changed → Type 0
     Inserts w = (w ≡ changed (inserted h ws y)) × (vs ≡ inserted h ws y .words)
 
@@ -84,13 +84,13 @@ module _ (h : BlockLand) (ws : List ℕ) (y : Range) (d : Entry) (k : Looked h w
     unfolding putOf putWords
     put-is = e
 
-    pub insert-1 : p ≡ Edited.Refused → (w : Changed) → w ≡ refusedBy h 1 → Inserts w
+    pub insert-1 : p ≡ TableEdited.Refused → (w : Changed) → w ≡ refusedBy h 1 → Inserts w
     insert-1 = edit-1 h ws (reachBase y) d k _ inserts g p vs put-is
 
-    pub insert-3 : p ≡ Edited.Full → (w : Changed) → w ≡ refusedBy h 3 → Inserts w
+    pub insert-3 : p ≡ TableEdited.Full → (w : Changed) → w ≡ refusedBy h 3 → Inserts w
     insert-3 = edit-3 h ws (reachBase y) d k _ inserts g p vs put-is
 
-    pub insert-0 : (x : Range) (m : ℕ) → p ≡ Edited.Done x m → (s : Size) → s .0 ≡ y .limit .0 - y .base .0 → (t : Size) → t .0 ≡ h .bytes .0 + s .0 →
+    pub insert-0 : (x : Range) (m : ℕ) → p ≡ TableEdited.Done x m → (s : Size) → s .0 ≡ y .limit .0 - y .base .0 → (t : Size) → t .0 ≡ h .bytes .0 + s .0 →
         (z : BlockLand) → z ≡ closedWith h m t → Inserts (record { land = z; answer = 0; range = x })
     insert-0 x m f s es t et =
         let w = whole h ws (readable h ws (reachBase y) d k) in
@@ -107,7 +107,7 @@ module _ (h : BlockLand) (ws : List ℕ) (y : Range) (d : Entry) (k : Looked h w
   abbrev deletes : Edits (arenaOf h ws) (tableOf h ws) (delete (y .base .0) (y .limit .0))
   deletes = delete-edits (arenaOf h ws) (tableOf h ws) (y .base .0) (y .limit .0)
 
-  module _ (p : Edited) (vs : List ℕ) (e : (p ≡ cutOf ws (h .ranges) y) × (vs ≡ cutWords ws (h .ranges) y)) where
+  module _ (p : TableEdited) (vs : List ℕ) (e : (p ≡ cutOf ws (h .ranges) y) × (vs ≡ cutWords ws (h .ranges) y)) where
     abbrev Deletes : Changed → Type 0
     Deletes w = (w ≡ changed (deleted h ws y)) × (vs ≡ deleted h ws y .words)
 
@@ -115,13 +115,13 @@ module _ (h : BlockLand) (ws : List ℕ) (y : Range) (d : Entry) (k : Looked h w
     unfolding cutOf cutWords
     cut-is = e
 
-    pub delete-1 : p ≡ Edited.Refused → (w : Changed) → w ≡ refusedBy h 1 → Deletes w
+    pub delete-1 : p ≡ TableEdited.Refused → (w : Changed) → w ≡ refusedBy h 1 → Deletes w
     delete-1 = edit-1 h ws (reachLimit y) d k _ deletes g p vs cut-is
 
-    pub delete-3 : p ≡ Edited.Full → (w : Changed) → w ≡ refusedBy h 3 → Deletes w
+    pub delete-3 : p ≡ TableEdited.Full → (w : Changed) → w ≡ refusedBy h 3 → Deletes w
     delete-3 = edit-3 h ws (reachLimit y) d k _ deletes g p vs cut-is
 
-    module _ (x : Range) (m : ℕ) (f : p ≡ Edited.Done x m) where
+    module _ (x : Range) (m : ℕ) (f : p ≡ TableEdited.Done x m) where
       left-over : total (delete-from (y .base .0) (y .limit .0) (tableOf h ws)) + (y .limit .0 - y .base .0) ≡ h .bytes .0
       left-over =
           let w = whole h ws (readable h ws (reachLimit y) d k) in

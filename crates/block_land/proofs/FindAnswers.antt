@@ -22,7 +22,7 @@ use Rattle.model.specs.Marks.{struct, plain, total}
 use Rattle.model.specs.inner.Steps.{part}
 use Rattle.model.proofs.FindAnswers as answers
 use Rattle.model.proofs.FindAnswers.{find-long, find-part, find-fewer}
-use Rattle.model.proofs.Parts.{Takes}
+use Rattle.model.proofs.Parts.{PartOf}
 use Rattle.model.proofs.Totals.{total-delete}
 use Rattle.finds.specs.inner.Parts.{Within}
 use Rattle.block_words.specs.Words.{capacity, fill}
@@ -52,7 +52,7 @@ module _ (h : BlockLand) (ws : List ℕ) (w : Which) (n : Size) (mode : Mode) (d
     fit : Fine h ws
     fit = whole h ws read
 
-    takes : Takes (align h) (tableOf h ws) (plain (d .here)) (plain y)
+    takes : PartOf (align h) (tableOf h ws) (plain (d .here)) (plain y)
     takes = find-part block-land h ws w n mode d k g t et f a ea m em o y ey
 
     -- the entry holds it

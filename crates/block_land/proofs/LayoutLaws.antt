@@ -11,7 +11,7 @@ use Rattle.model.specs.inner.Lists.{Apart, Aligned}
 use Rattle.model.specs.Layouts.{holding}
 use Rattle.model.specs.inner.Laws.{LandLaws}
 use Rattle.model.proofs.Outcomes.{read-whole}
-use Rattle.block_words.specs.Words.{capacity, pairs, clear, soundTable, fill}
+use Rattle.block_words.specs.Words.{capacity, pairs, all-zero, soundTable, fill}
 use Rattle.block_words.proofs.Filling.{length-fill, pairs-fill, clear-fill, fill-pairs}
 use Rattle.block_words.proofs.Canonical.{apart-canonical}
 use Rattle.block_land.specs.Layout.{base, limit, align, setUp, sound, tableOf, readOf, closed, SamePairs, layout}
@@ -83,7 +83,7 @@ same-table (w ∷ []) (v ∷ v' ∷ vs) (suc n) m = absurd m
 same-table (w ∷ w' ∷ ws) (v ∷ []) (suc n) m = absurd m
 same-table (w ∷ w' ∷ ws) (v ∷ v' ∷ vs) (suc n) m = rw (m .0, m .1, same-table ws vs n (m .2))
 
-same-clear : (ws vs : List ℕ) → SamePairs ws vs → clear vs ≡ clear ws
+same-clear : (ws vs : List ℕ) → SamePairs ws vs → all-zero vs ≡ all-zero ws
 same-clear [] [] m = refl
 same-clear [] (v ∷ vs) m = absurd m
 same-clear (w ∷ ws) [] m = absurd m
@@ -92,7 +92,7 @@ same-clear (w ∷ []) (v ∷ v' ∷ vs) m = absurd m
 same-clear (w ∷ w' ∷ ws) (v ∷ []) m = absurd m
 same-clear (w ∷ w' ∷ ws) (v ∷ v' ∷ vs) m = rw (m .0, m .1, same-clear ws vs (m .2))
 
-same-tail : (ws vs : List ℕ) (n : ℕ) → SamePairs ws vs → clear (drop (2 * n) vs) ≡ clear (drop (2 * n) ws)
+same-tail : (ws vs : List ℕ) (n : ℕ) → SamePairs ws vs → all-zero (drop (2 * n) vs) ≡ all-zero (drop (2 * n) ws)
 same-tail ws vs zero m = same-clear ws vs m
 same-tail [] [] (suc n) m = refl
 same-tail [] (v ∷ vs) (suc n) m = absurd m

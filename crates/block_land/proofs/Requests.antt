@@ -16,7 +16,7 @@ use Rattle.model.specs.Marks.{total}
 use Rattle.model.specs.Marks as marks
 use Rattle.model.proofs.Requests.{range-rules}
 use Rattle.model.proofs.Totals.{total-small}
-use Rattle.block_words.specs.inner.Surveys.{Spot}
+use Rattle.block_words.specs.inner.Surveys.{FirstReach}
 use Rattle.block_words.specs.declared.Entry.{Entry}
 use Rattle.block_edits.specs.inner.Edits.{Sorted}
 use Rattle.block_edits.proofs.Entering.{reach-spot}
@@ -36,7 +36,7 @@ module _ (h : BlockLand) (ws : List ℕ) (aim : Aim) (d : Entry) (k : Looked h w
   looked-align = placed h ws (k .good) .arena .align
 
 -- the first range that reaches an address
-pub looked-spot : (h : BlockLand) (ws : List ℕ) (x : Addr) (d : Entry) → Looked h ws (Aim.Reach x) d → Spot ws (h .ranges) (x .0) (d .number)
+pub looked-spot : (h : BlockLand) (ws : List ℕ) (x : Addr) (d : Entry) → Looked h ws (Aim.Reach x) d → FirstReach ws (h .ranges) (x .0) (d .number)
 looked-spot h ws x d k =
     let f = fine h ws (k .good) (k .whole) in
     rw (k .kept) (reach-spot ws (h .ranges) (base h) (limit h) x (f .fits) (f .place .arena .above) (f .apart))

@@ -14,20 +14,20 @@ use Rattle.units.proofs.Facts.{GoodArena, arena-facts}
 use Rattle.units.proofs.Tests.{and-left, and-right}
 use Rattle.model.specs.Marks.{total}
 use Rattle.model.specs.inner.Lists.{Apart, Aligned}
-use Rattle.block_words.specs.Words.{capacity, clear, canonical, soundTable}
+use Rattle.block_words.specs.Words.{capacity, all-zero, canonical, soundTable}
 use Rattle.block_words.proofs.Pairs.{length-pairs}
 use Rattle.block_words.proofs.Canonical.{canonical-apart}
 use Rattle.block_land.specs.Layout.{base, limit, align, setUp, sound, tableOf}
 use Rattle.block_land.specs.declared.BlockLand.{BlockLand}
 
 -- what a good set-up says of the numbers
-pub record Placed (h : BlockLand) (n : ℕ) : Type 0 where
+pub record SetUpFacts (h : BlockLand) (n : ℕ) : Type 0 where
   pub check : arenaCheck (base h) (limit h) (align h) ≡ ArenaCheck.Good
   pub arena : GoodArena (base h) (limit h) (align h)
   pub few : n ≤ 2097152
   pub positive : 0 < align h
 
-pub placed : (h : BlockLand) (ws : List ℕ) → setUp h ws ≡ true → Placed h (length ws)
+pub placed : (h : BlockLand) (ws : List ℕ) → setUp h ws ≡ true → SetUpFacts h (length ws)
 unfolding setUp
 placed h ws e =
     let c = good-case (arenaCheck (base h) (limit h) (align h)) (and-left _ _ e) in
@@ -41,9 +41,9 @@ placed h ws e =
 
 -- a land whose table is sound
 pub record Fine (h : BlockLand) (ws : List ℕ) : Type 0 where
-  pub place : Placed h (length ws)
+  pub place : SetUpFacts h (length ws)
   pub fits : h .ranges ≤ capacity ws
-  pub clean : clear (drop (2 * h .ranges) ws) ≡ true
+  pub clean : all-zero (drop (2 * h .ranges) ws) ≡ true
   pub apart : Apart (base h) (limit h) (tableOf h ws)
   pub aligned : Aligned (align h) (tableOf h ws)
   pub count : h .ranges ≡ length (tableOf h ws)
@@ -56,7 +56,7 @@ fine h ws g s =
     let rs = tableOf h ws in
     let k = leb-true n (capacity ws) (and-left _ _ s) in
     let s1 = and-right (leb n (capacity ws)) _ s in
-    let s2 = and-right (clear (drop (2 * n) ws)) _ s1 in
+    let s2 = and-right (all-zero (drop (2 * n) ws)) _ s1 in
     let c = canonical-apart (base h) (limit h) (align h) rs (and-left _ _ s2) in
     record {
       place = placed h ws g;

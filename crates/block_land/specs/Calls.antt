@@ -59,4 +59,3 @@ openedOf b l a ws =
 -- Opening sets all pair words to 0; a refused one changes no word.
 unfoldable pub openedWords : ℕ → ℕ → ℕ → List ℕ → List ℕ
 openedWords b l a ws = cond (setUp (newLand b l a) ws) (fill [] ws) ws
-

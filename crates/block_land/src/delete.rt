@@ -3,7 +3,7 @@ use crate::BlockLand;
 use crate::Changed;
 use crate::Look;
 use crate::refused;
-use block_edits::Edited;
+use block_edits::TableEdited;
 use block_words::Entry;
 use units::Aim;
 use units::Range;
@@ -22,9 +22,9 @@ impl BlockLand {
             return refused(self, 4);
         };
         match block_edits::cut_out(nodes, self.ranges, entry.number, range) {
-            Edited::Refused => refused(self, 1),
-            Edited::Full => refused(self, 3),
-            Edited::Done(old, count) => {
+            TableEdited::Refused => refused(self, 1),
+            TableEdited::Full => refused(self, 3),
+            TableEdited::Done(old, count) => {
                 let bytes = self.bytes.minus(range.size());
                 Changed {
                     land: self.close(count, bytes),
@@ -35,7 +35,7 @@ impl BlockLand {
         }
     }
 
-    // Takes a range out that is wholly free. The range returned is the isolated one that contained it before.
+    // PartOf a range out that is wholly free. The range returned is the isolated one that contained it before.
     pub fn delete(self, nodes: &mut [u64], range: Range) -> Changed
         ensures { λ r. ⌜ (r ≡ changed (deleted self (now (nodes .entry)) range)) × (now (nodes .exit) ≡ deleted self (now (nodes .entry)) range .words) ⌝ }
     {

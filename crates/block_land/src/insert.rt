@@ -3,7 +3,7 @@ use crate::BlockLand;
 use crate::Changed;
 use crate::Look;
 use crate::refused;
-use block_edits::Edited;
+use block_edits::TableEdited;
 use block_words::Entry;
 use units::Aim;
 use units::Range;
@@ -22,9 +22,9 @@ impl BlockLand {
             return refused(self, 4);
         };
         match block_edits::put_at(nodes, self.ranges, entry.number, range) {
-            Edited::Refused => refused(self, 1),
-            Edited::Full => refused(self, 3),
-            Edited::Done(fresh, count) => {
+            TableEdited::Refused => refused(self, 1),
+            TableEdited::Full => refused(self, 3),
+            TableEdited::Done(fresh, count) => {
                 let bytes = self.bytes.plus(range.size());
                 Changed {
                     land: self.close(count, bytes),

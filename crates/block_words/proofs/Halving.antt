@@ -12,7 +12,7 @@ use Rattle.units.specs.declared.Range.{Range}
 use Rattle.model.proofs.Splits.{limits-rise}
 use Rattle.block_words.specs.Words.{pairs}
 use Rattle.block_words.specs.inner.Tallies.{pairAt}
-use Rattle.block_words.specs.inner.Surveys.{Ordered, Spot}
+use Rattle.block_words.specs.inner.Surveys.{Ordered, FirstReach}
 use Rattle.block_words.proofs.Pairs.{length-pairs, get-limit}
 
 rise : (ws : List ℕ) (n j k : ℕ) → Ordered ws n → j ≤ k → k < n → getD ws (2 * j + 1) 0 ≤ getD ws (2 * k + 1) 0
@@ -63,7 +63,7 @@ module _ (ws : List ℕ) (n x lo hi : ℕ) (s : Halving ws n x lo hi) where
     pub halve-down : r ≡ false → Halving ws n x lo mid
     halve-down t = go-down k (ltb-false (getD ws (2 * mid + 1) 0) x (middle ∙ t))
 
-  pub halve-done : hi ≤ lo → Spot ws n x lo
+  pub halve-done : hi ≤ lo → FirstReach ws n x lo
   halve-done k =
       let order = s .order in
       let top = s .top in

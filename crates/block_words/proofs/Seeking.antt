@@ -19,7 +19,7 @@ use Rattle.model.specs.Marks.{rng}
 use Rattle.model.specs.inner.Lists.{Apart}
 use Rattle.block_words.specs.Words.{pairs}
 use Rattle.block_words.specs.inner.Tallies.{pairAt}
-use Rattle.block_words.specs.inner.Surveys.{entry, entryAt, entryOf, Rising, Spot}
+use Rattle.block_words.specs.inner.Surveys.{entry, entryAt, entryOf, Rising, FirstReach}
 use Rattle.block_words.specs.declared.Entry.{Entry}
 use Rattle.block_words.proofs.Pairs.{length-pairs, get-pair}
 use Rattle.block_words.proofs.Staying.{at-inside, at-end, kept-at}
@@ -83,7 +83,7 @@ module _ (ws : List ℕ) (n : ℕ) (s : Rising ws n) where
   nothing-kept q e = e ∙ kept-at ws n s Aim.Nothing refl n (λ j h k. refl) (λ h. absurd (omega arith))
 
   -- at the first range that reaches an address
-  module _ (x : Addr) (k : ℕ) (p : Spot ws n (x .0) k) where
+  module _ (x : Addr) (k : ℕ) (p : FirstReach ws n (x .0) k) where
     pub reach-kept : (q : Entry) → q ≡ entryAt ws n k → q ≡ entryOf (Aim.Reach x) (pairs ws n)
     reach-kept q e =
         e ∙ kept-at ws n s (Aim.Reach x) refl k

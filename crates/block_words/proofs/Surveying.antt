@@ -17,7 +17,7 @@ use Rattle.units.proofs.Facts.{arena-facts}
 use Rattle.units.proofs.Tests.{by, clash, and-left, and-right}
 use Rattle.units.proofs.Ways.{said-true, said-false}
 use Rattle.units.proofs.Cases.{sound-true, sound-false}
-use Rattle.block_words.specs.Words.{capacity, pairs, clear, soundTable}
+use Rattle.block_words.specs.Words.{capacity, pairs, all-zero, soundTable}
 use Rattle.block_words.specs.inner.Tallies.{Ready, soundPairs}
 use Rattle.block_words.specs.inner.Surveys.{entryOf, Rising, tidy, verdictNumber, surveyOf}
 use Rattle.block_words.specs.declared.Entry.{Entry}
@@ -30,18 +30,18 @@ module _ (ws : List ℕ) (n : ℕ) where
   pub tidy-few : length ws / 2 < n → Soundness.Damaged ≡ soundnessOf (tidy ws n)
   tidy-few k = rw (lt-leb n (capacity ws) k)
 
-  module _ (k : n ≤ length ws / 2) (z : Bool) (e : z ≡ clear (drop (2 * n) ws)) where
+  module _ (k : n ≤ length ws / 2) (z : Bool) (e : z ≡ all-zero (drop (2 * n) ws)) where
     pub tidy-dirty : not z ≡ true → Soundness.Damaged ≡ soundnessOf (tidy ws n)
-    tidy-dirty f = rw (le-leb n (capacity ws) k, said-false z (clear (drop (2 * n) ws)) e f)
+    tidy-dirty f = rw (le-leb n (capacity ws) k, said-false z (all-zero (drop (2 * n) ws)) e f)
 
     pub tidy-zeros : not z ≡ false → Soundness.Sound ≡ soundnessOf (tidy ws n)
-    tidy-zeros f = rw (le-leb n (capacity ws) k, said-true z (clear (drop (2 * n) ws)) e f)
+    tidy-zeros f = rw (le-leb n (capacity ws) k, said-true z (all-zero (drop (2 * n) ws)) e f)
 
 pub ruleset tidies = (tidy-few, tidy-dirty, tidy-zeros)
 
 pub tidy-fits : (ws : List ℕ) (n : ℕ) (z : Soundness) → z ≡ soundnessOf (tidy ws n) → z ≡ Soundness.Sound → n ≤ length ws / 2
 tidy-fits ws n z ez f =
-    leb-true n (capacity ws) (and-left (leb n (capacity ws)) (clear (drop (2 * n) ws)) (sound-true (tidy ws n) z ez f))
+    leb-true n (capacity ws) (and-left (leb n (capacity ws)) (all-zero (drop (2 * n) ws)) (sound-true (tidy ws n) z ez f))
 
 -- what is found has the number of the table's soundness
 pub verdict-number : (arena : Arena) (ws : List ℕ) (n : ℕ) (bytes : Size) (aim : Aim) →
@@ -70,7 +70,7 @@ module _ (arena : Arena) (ws : List ℕ) (n : ℕ) (bytes : Size) where
         e
         ∙ ap soundnessOf
         (sym (sound-pairs (arena .base .0) (arena .limit .0) (arena .align .0) ws n (bytes .0) (tidy-fits ws n z ez f)
-        (and-right (leb n (capacity ws)) (clear (drop (2 * n) ws)) (sound-true (tidy ws n) z ez f))))
+        (and-right (leb n (capacity ws)) (all-zero (drop (2 * n) ws)) (sound-true (tidy ws n) z ez f))))
 
   -- the pairs of a sound table ascend
   pub sound-rising : Ready arena → isSound ≡ true → Rising ws n

@@ -15,7 +15,7 @@ ghost use mathlib.Core.Path.{_≡_};
 ghost use Prim.Native.Nat.{_*_, _/_, _≤_, _<_};
 ghost use lib.ListN.{length, drop};
 ghost use Rattle.units.specs.Rules.{soundnessOf};
-ghost use Rattle.block_words.specs.Words.{clear, soundTable};
+ghost use Rattle.block_words.specs.Words.{all-zero, soundTable};
 ghost use Rattle.block_words.specs.inner.Tallies.{pairAt, Ready};
 ghost use Rattle.block_words.specs.inner.Surveys.{tidy, surveyOf};
 
@@ -44,7 +44,7 @@ pub fn pair_at(words: &[u64], i: usize) -> Range
 // Whether every pair word from pair n on is 0: all are OR-ed and tested at the end, so that the compiler takes several a turn.
 fn is_zero(words: &[u64], n: usize) -> bool
     requires { ⌜ n ≤ length (now words) / 2 ⌝ }
-    ensures { λ r. ⌜ r ≡ clear (drop (2 * n) (now (words .entry))) ⌝ }
+    ensures { λ r. ⌜ r ≡ all-zero (drop (2 * n) (now (words .entry))) ⌝ }
 {
     let end = words.len() / 2 * 2;
     let mut i = 2 * n;

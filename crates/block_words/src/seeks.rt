@@ -11,12 +11,12 @@ ghost use lib.ListN.{length};
 ghost use Rattle.units.specs.declared.Which.{Which};
 ghost use Rattle.units.specs.declared.aims.Aim.{Aim};
 ghost use Rattle.block_words.specs.Words.{pairs};
-ghost use Rattle.block_words.specs.inner.Surveys.{entryAt, entryOf, Ordered, Rising, Spot};
+ghost use Rattle.block_words.specs.inner.Surveys.{entryAt, entryOf, Ordered, Rising, FirstReach};
 
 // The number of the first of n ranges that reaches an address, or n, by halving.
-pub fn spot(words: &[u64], n: usize, x: Addr) -> usize
+pub fn first_reach(words: &[u64], n: usize, x: Addr) -> usize
     requires { ⌜ Ordered (now words) n ⌝ }
-    ensures { λ r. ⌜ Spot (now (words .entry)) n (x .0) r ⌝ }
+    ensures { λ r. ⌜ FirstReach (now (words .entry)) n (x .0) r ⌝ }
 {
     let mut lo: usize = 0;
     let mut hi = n;
@@ -50,7 +50,7 @@ fn reached(words: &[u64], n: usize, x: Addr) -> Entry
     requires { ⌜ Rising (now words) n ⌝ }
     ensures { λ r. ⌜ r ≡ entryOf (Aim.Reach x) (pairs (now (words .entry)) n) ⌝ }
 {
-    let i = spot(words, n, x);
+    let i = first_reach(words, n, x);
     entry_at(words, n, i)
 }
 
@@ -59,7 +59,7 @@ fn above(words: &[u64], n: usize, x: Addr) -> Entry
     requires { ⌜ Rising (now words) n ⌝ }
     ensures { λ r. ⌜ r ≡ entryOf (Aim.From x) (pairs (now (words .entry)) n) ⌝ }
 {
-    let i = spot(words, n, x);
+    let i = first_reach(words, n, x);
     let first = entry_at(words, n, i);
     if first.here.base.lt(x) {
         return entry_at(words, n, i + 1);

@@ -10,10 +10,10 @@ use borrow.Author.Tests.{le-leb, leb-true, eqb-true}
 use Rattle.units.proofs.Tests.{by, and-left, and-right}
 use Rattle.model.specs.Marks.{Range}
 use Rattle.model.specs.inner.Lists.{Apart, Aligned}
-use Rattle.model.specs.Calls.{Arena}
+use Rattle.model.specs.Calls.{Arena, unbounded}
 use Rattle.model.specs.Layouts.{holding}
 use Rattle.model.specs.inner.Laws.{Fine}
-use Rattle.model.specs.Flushing.{flush, unlimited, Flushes}
+use Rattle.model.specs.Flushing.{flush, Flushes}
 use Rattle.model.proofs.Flushing.{flushes}
 use Rattle.list_words.proofs.Laid.{Laid, laid-rest, lay-laid}
 use Rattle.list_land.specs.Layout as list
@@ -121,7 +121,7 @@ module _ (h : ListLand) (ws : List ℕ) (k : BlockLand) (vs : List ℕ) (c : Che
   one = one-arena h k (c .same)
 
   -- the list's ranges are ranges of the block land's arena
-  pub list-canon : Fine (unlimited a) rs
+  pub list-canon : Fine (unbounded a) rs
   list-canon =
       let f = list-fine in
       record {

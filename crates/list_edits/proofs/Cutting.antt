@@ -22,7 +22,7 @@ use Rattle.list_words.specs.Laying.{head-of, lay}
 use Rattle.list_edits.specs.inner.Edits.{EditRoom, storeHead, storeWords}
 use Rattle.list_words.specs.declared.Spot.{Spot}
 use Rattle.list_words.proofs.Laid.{Laid, laid-rest}
-use Rattle.list_words.proofs.Keeping.{At, Placed, kept-placed}
+use Rattle.list_words.proofs.Keeping.{At, SpotOf, kept-placed}
 use Rattle.list_edits.proofs.Editing.{edited, Stored, stored}
 use Rattle.list_words.specs.declared.Chain.{Chain}
 use Rattle.list_edits.specs.inner.Chains.{metOf, Holding, remaining}
@@ -130,7 +130,7 @@ module _ (a : Arena) (ws : List ℕ) (c : Chain) (s : Spot) (y : units.Range) (k
       go (pick-by (k .aim) none (metOf a ws c))
       (rw (← k .held .kept) at (kept-placed (k .aim) (a .base .0) (a .limit .0) (metOf a ws c) (whole .place .arena .above) (whole .apart)))
     where
-      go : (o : Option Range) → Placed (metOf a ws c) o s → Here
+      go : (o : Option Range) → SpotOf (metOf a ws c) o s → Here
       go none p =
           let e : s .here .limit .0 ≡ 0 = ap (λ (v : units.Range). v .limit .0) (p .here) in
           absurd (omega (arith, k .proper, k .high))

@@ -15,16 +15,16 @@ use Rattle.units.proofs.Facts.{GoodRange, range-facts}
 use Rattle.model.specs.inner.Lists.{overlaps}
 use Rattle.model.proofs.Places.{overlaps-front}
 use Rattle.model.proofs.Reaching.{reach, reach-none}
-use Rattle.list_words.proofs.Keeping.{Placed, none-there, kept-reach}
+use Rattle.list_words.proofs.Keeping.{SpotOf, none-there, kept-reach}
 use Rattle.list_words.specs.declared.Chain.{Chain}
 use Rattle.list_words.specs.declared.Spot.{Spot}
 use Rattle.list_edits.specs.inner.Chains.{metOf, Held, mayAsk, Holding, joinedOf, joinedWords, putOf, putWords, cutChain, cutWords}
 use Rattle.list_edits.specs.inner.Edits.{EditRoom, storeHead, storeWords}
 use Rattle.list_edits.specs.inner.Joins.{joinEdit, Putting, joinDone}
 use Rattle.list_edits.specs.inner.Places.{Placing, placeOf}
-use Rattle.list_edits.specs.declared.Edited.{Edited}
+use Rattle.list_edits.specs.declared.ChainEdited.{ChainEdited}
 use Rattle.list_edits.specs.declared.Join.{Join}
-use Rattle.list_edits.specs.declared.Joined.{Joined}
+use Rattle.list_edits.specs.declared.ChainJoined.{ChainJoined}
 use Rattle.list_edits.proofs.Cutting.{cutEdit, held-cut}
 use Rattle.list_edits.proofs.Following.{follows-placed}
 use Rattle.list_edits.proofs.Inserting.{insert-meets, Landed, landed}
@@ -64,7 +64,7 @@ module _ (a : Arena) (ws : List ℕ) (c : Chain) (y : Range) (s : Spot) (k : Hel
   stands = stand a ws c fit y s (rules .from) (rules .order) k
 
   -- the spot is that of the first range that reaches the base
-  reached : Placed (metOf a ws c) (reach (y .base .0) (metOf a ws c)) s
+  reached : SpotOf (metOf a ws c) (reach (y .base .0) (metOf a ws c)) s
   reached = rw (← k .kept) at (kept-reach (a .base .0) (a .limit .0) (metOf a ws c) (fit .place .arena .above) (fit .apart) (y .base))
 
   -- the spot after the one given can be read
@@ -83,7 +83,7 @@ module _ (a : Arena) (ws : List ℕ) (c : Chain) (y : Range) (s : Spot) (k : Hel
     pub at-place : j .overlaps ≡ overlaps (y .base .0) (y .limit .0) (metOf a ws c)
     at-place = ap (λ (v : Join). v .overlaps) ej ∙ sym (insert-meets a ws c fit y s rules stands)
 
-    pub put-refused : j .overlaps ≡ true → (Edited.Refused ≡ putOf (metOf a ws c) y) × (ws ≡ putWords (metOf a ws c) y (a .base .0) ws)
+    pub put-refused : j .overlaps ≡ true → (ChainEdited.Refused ≡ putOf (metOf a ws c) y) × (ws ≡ putWords (metOf a ws c) y (a .base .0) ws)
     unfolding putOf putWords
     put-refused f = let o = sym at-place ∙ f in (rw o, rw o)
 
@@ -95,7 +95,7 @@ module _ (a : Arena) (ws : List ℕ) (c : Chain) (y : Range) (s : Spot) (k : Hel
       pub join-putting : Putting (a .base .0) (length ws) c y j
       join-putting = done .ready
 
-      pub join-done : (w : Joined) (ws' : List ℕ) → (w ≡ joinDone c y j) × (ws' ≡ storeWords (a .base .0) ws (joinEdit j)) →
+      pub join-done : (w : ChainJoined) (ws' : List ℕ) → (w ≡ joinDone c y j) × (ws' ≡ storeWords (a .base .0) ws (joinEdit j)) →
           (w ≡ joinedOf (metOf a ws c) y) × (ws' ≡ joinedWords (metOf a ws c) y (a .base .0) ws)
       join-done w ws' q = (q .0 ∙ done .gives, q .1 ∙ done .words)
 
@@ -106,12 +106,12 @@ module _ (a : Arena) (ws : List ℕ) (c : Chain) (y : Range) (s : Spot) (k : Hel
       pub put-putting : Putting (a .base .0) (length ws) c y j
       put-putting = join-putting clear
 
-      pub put-done : (w : Joined) (ws' : List ℕ) → (w ≡ joinDone c y j) × (ws' ≡ storeWords (a .base .0) ws (joinEdit j)) →
-          (Edited.Done (w .chain) (w .range) ≡ putOf (metOf a ws c) y) × (ws' ≡ putWords (metOf a ws c) y (a .base .0) ws)
+      pub put-done : (w : ChainJoined) (ws' : List ℕ) → (w ≡ joinDone c y j) × (ws' ≡ storeWords (a .base .0) ws (joinEdit j)) →
+          (ChainEdited.Done (w .chain) (w .range) ≡ putOf (metOf a ws c) y) × (ws' ≡ putWords (metOf a ws c) y (a .base .0) ws)
       unfolding putOf putWords
       put-done w ws' q =
           let d = join-done clear w ws' q in
-          (rw clear (ap (λ (v : Joined). Edited.Done (v .chain) (v .range)) (d .0)), rw clear (d .1))
+          (rw clear (ap (λ (v : ChainJoined). ChainEdited.Done (v .chain) (v .range)) (d .0)), rw clear (d .1))
 
 -- A PART TAKEN OUT
 module _ (a : Arena) (ws : List ℕ) (c : Chain) (s : Spot) (y : Range) (k : Holding a ws c s y) (u v : Range)

@@ -19,7 +19,7 @@ use Rattle.list_words.specs.declared.Chain.{Chain}
 use Rattle.list_words.specs.declared.Descriptor.{Descriptor}
 use Rattle.list_words.specs.declared.Spot.{Spot}
 use Rattle.list_words.proofs.Describing.{laid-read, laid-stands}
-use Rattle.list_words.proofs.Keeping.{At, Placed}
+use Rattle.list_words.proofs.Keeping.{At, SpotOf}
 use Rattle.list_words.proofs.Laid.{Laid, laid-rest}
 use Rattle.list_edits.specs.inner.Chains.{metOf}
 use Rattle.list_edits.specs.inner.Places.{Following, followingOf}
@@ -74,6 +74,6 @@ module _ (a : Arena) (ws : List ℕ) (c : Chain) (f : Fine a ws c) (s : Spot) wh
     behind [] e = record { standing = λ z. clash {t = eqb (s .next .0) 0} (rw (p .next, e)) z }
     behind (r ∷ rs) e = record { standing = λ z. next-stands r rs e }
 
-  pub follows-placed : (o : Option Range) → Placed (metOf a ws c) o s → Following a ws s
+  pub follows-placed : (o : Option Range) → SpotOf (metOf a ws c) o s → Following a ws s
   follows-placed none p = record { standing = λ z. clash {t = eqb (s .next .0) 0} (rw (p .next)) z }
   follows-placed (some q) p = behind q p (p .rest) refl

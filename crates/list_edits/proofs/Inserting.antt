@@ -27,7 +27,7 @@ use Rattle.list_edits.specs.inner.Joins.{joinEdit, Putting, joinDone}
 use Rattle.list_edits.specs.inner.Chains.{metOf, joinedOf}
 use Rattle.list_edits.specs.declared.Join.{Join}
 use Rattle.list_edits.proofs.Sound.{Fine, small}
-use Rattle.list_edits.proofs.Joining.{Joined, joins-free, joins-meets}
+use Rattle.list_edits.proofs.Joining.{ChainJoined, joins-free, joins-meets}
 use Rattle.list_edits.proofs.Standing.{Stand}
 
 module _ (a : Arena) (ws : List ℕ) (c : Chain) (f : Fine a ws c) (y : units.Range) (s : Spot) (rules : GoodRange (a .base .0) (a .limit .0) (a .align .0) (y .base .0) (y .limit .0))
@@ -51,7 +51,7 @@ module _ (a : Arena) (ws : List ℕ) (c : Chain) (f : Fine a ws c) (y : units.Ra
 
   -- no byte of the request is free
   module _ (j : Join) (e : j ≡ placeOf a ws y s) (clear : overlaps (y .base .0) (y .limit .0) (metOf a ws c) ≡ false) where
-    joined : Joined (a .base .0) (t .x) b l ws (s .prev) (t .joins) (t .ups) j
+    joined : ChainJoined (a .base .0) (t .x) b l ws (s .prev) (t .joins) (t .ups) j
     joined =
         let p : j ≡ joinOf (s .prev) (rangeOf (t .x) l) (t .joins) (t .above) = e ∙ t .place in
         let o : joinOf (s .prev) (rangeOf (t .x) l) (t .joins) (t .above) .overlaps ≡ false = ap (λ (v : Join). v .overlaps) (sym (t .place)) ∙ sym insert-meets ∙ clear in

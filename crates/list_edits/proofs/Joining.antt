@@ -31,7 +31,7 @@ Over b [] = Unit {0}
 Over b (r ∷ rs) = b < r .limit
 
 -- [x, l), which holds the request [b, l), before the ranges ups: what it becomes, and what stays behind it
-pub record Joined (base x b l : ℕ) (ws : List ℕ) (p : units.Range) (joins : ℕ) (ups : List Range) (j : Join) : Type 0 where
+pub record ChainJoined (base x b l : ℕ) (ws : List ℕ) (p : units.Range) (joins : ℕ) (ups : List Range) (j : Join) : Type 0 where
   pub tail : List Range
   pub more : ℕ
   pub into : insert-in x l ups ≡ plain (j .fresh) ∷ tail
@@ -46,7 +46,7 @@ pub record Joined (base x b l : ℕ) (ws : List ℕ) (p : units.Range) (joins : 
 
 module _ (base x b l : ℕ) (ws : List ℕ) (p : units.Range) (joins : ℕ) (xb : x ≤ b) (bl : b < l) where
   abbrev Out : List Range → Join → Type 0
-  Out ups j = Joined base x b l ws p joins ups j
+  Out ups j = ChainJoined base x b l ws p joins ups j
 
   -- nothing above
   join-none : (s : Spot) → Above [] s → Out [] (joinOf p (rangeOf x l) joins s)

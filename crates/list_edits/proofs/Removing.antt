@@ -17,9 +17,9 @@ use Rattle.model.proofs.Places.{Before, apart-rest, holds-below, holder-below, 
 use Rattle.model.proofs.Reaching.{reach, reach-none, reach-some}
 use Rattle.list_words.specs.declared.Chain.{Chain}
 use Rattle.list_words.specs.declared.Spot.{Spot}
-use Rattle.list_words.proofs.Keeping.{At, Placed, none-there, one-there, kept-reach}
+use Rattle.list_words.proofs.Keeping.{At, SpotOf, none-there, one-there, kept-reach}
 use Rattle.list_edits.specs.inner.Chains.{metOf, Held, mayAsk, Holding, cutChain, cutWords, cutOf, cutOutWords}
-use Rattle.list_edits.specs.declared.Edited.{Edited}
+use Rattle.list_edits.specs.declared.ChainEdited.{ChainEdited}
 use Rattle.list_edits.proofs.Sound.{Fine, fine}
 
 module _ (a : Arena) (ws : List ℕ) (c : Chain) (y : units.Range) (s : Spot) (k : Held a ws c (Aim.Reach (y .limit)) s) (g : mayAsk a y ≡ true) where
@@ -32,7 +32,7 @@ module _ (a : Arena) (ws : List ℕ) (c : Chain) (y : units.Range) (s : Spot) (k
   abbrev met : List Range
   met = metOf a ws c
 
-  abbrev Gives : Edited → List ℕ → Type 0
+  abbrev Gives : ChainEdited → List ℕ → Type 0
   Gives p ws' = (p ≡ cutOf met y) × (ws' ≡ cutOutWords met y (a .base .0) ws)
 
   fit : Fine a ws c
@@ -42,15 +42,15 @@ module _ (a : Arena) (ws : List ℕ) (c : Chain) (y : units.Range) (s : Spot) (k
   rules = range-facts (a .base .0) (a .limit .0) (a .align .0) b l g
 
   -- the first range that reaches the limit, or none
-  stood : Placed met (reach l met) s
+  stood : SpotOf met (reach l met) s
   stood = rw (← k .kept) at (kept-reach (a .base .0) (a .limit .0) met (fit .place .arena .above) (fit .apart) (y .limit))
 
-  refused : holds b l met ≡ false → Gives Edited.Refused ws
+  refused : holds b l met ≡ false → Gives ChainEdited.Refused ws
   unfolding cutOf cutOutWords
   refused o = (rw o, rw o)
 
   -- no range reaches it
-  pub out-behind : (r : Bool) → r ≡ eqb (s .here .base .0) 0 → r ≡ true → Gives Edited.Refused ws
+  pub out-behind : (r : Bool) → r ≡ eqb (s .here .base .0) 0 → r ≡ true → Gives ChainEdited.Refused ws
   out-behind r er t =
       let f = none-there met (reach l met) s stood r er t in
       refused (rw (← append-nil met) (holds-below b l met [] (reach-none l (a .base .0) (a .limit .0) met (fit .apart) f)))
@@ -75,7 +75,7 @@ module _ (a : Arena) (ws : List ℕ) (c : Chain) (y : units.Range) (s : Spot) (k
     here-base = ap (λ (v : units.Range). v .base .0) (reached .at .here)
 
     -- it begins above the request
-    pub out-before : (u : Bool) → u ≡ ltb b (s .here .base .0) → u ≡ true → Gives Edited.Refused ws
+    pub out-before : (u : Bool) → u ≡ ltb b (s .here .base .0) → u ≡ true → Gives ChainEdited.Refused ws
     out-before u eu f =
         let p = reached .at in
         let q = reached .at-range in
@@ -108,12 +108,12 @@ module _ (a : Arena) (ws : List ℕ) (c : Chain) (y : units.Range) (s : Spot) (k
         limit-aligned = rules .limit-aligned;
       }
 
-      pub out-done : (n : Chain) (ws' : List ℕ) → (n ≡ cutChain met y) × (ws' ≡ cutWords met y (a .base .0) ws) → Gives (Edited.Done n (s .here)) ws'
+      pub out-done : (n : Chain) (ws' : List ℕ) → (n ≡ cutChain met y) × (ws' ≡ cutWords met y (a .base .0) ws) → Gives (ChainEdited.Done n (s .here)) ws'
       unfolding cutOf cutOutWords
       out-done n ws' e =
           let o = held-here in
           let d = e .0 in
           let r : s .here ≡ struct (holder b l met) = reached .at .here ∙ sym (ap struct (o .1)) in
-          (rw (o .0) (λ i. Edited.Done (d i) (r i)), rw (o .0) (e .1))
+          (rw (o .0) (λ i. ChainEdited.Done (d i) (r i)), rw (o .0) (e .1))
 
 pub ruleset out-ways = (out-behind, out-before, out-holding, out-done)

@@ -23,20 +23,20 @@ use Rattle.list_words.proofs.Meeting.{clean-case, walk-mets, aligned-8}
 use Rattle.list_edits.specs.inner.Chains.{metOf}
 
 -- what a ready arena says of the numbers
-pub record Placed (a : Arena) (n : ℕ) : Type 0 where
+pub record SetUpFacts (a : Arena) (n : ℕ) : Type 0 where
   pub ready : Ready a n
   pub arena : GoodArena (a .base .0) (a .limit .0) (a .align .0)
   pub words : (a .limit .0 - a .base .0) / 8 ≡ n
   pub positive : 0 < a .align .0
 
-pub placed : (a : Arena) (n : ℕ) → Ready a n → Placed a n
+pub placed : (a : Arena) (n : ℕ) → Ready a n → SetUpFacts a n
 placed a n r =
     let f = arena-facts (a .base .0) (a .limit .0) (a .align .0) (r .arena) in
     record { ready = r; arena = f; words = r .words; positive = align-positive (a .align .0) (f .align) }
 
 -- a chain whose list is sound
 pub record Fine (a : Arena) (ws : List ℕ) (c : Chain) : Type 0 where
-  pub place : Placed a (length ws)
+  pub place : SetUpFacts a (length ws)
   pub base8 : a .base .0 % 8 ≡ 0
   pub laid : Laid (a .base .0) (metOf a ws c) ws
   pub apart : Apart (a .base .0) (a .limit .0) (metOf a ws c)

@@ -19,7 +19,7 @@ use Rattle.model.proofs.Places.{Before, apart-rest, insert-below}
 use Rattle.model.proofs.Reaching.{reach, reach-none, reach-some}
 use Rattle.list_edits.specs.inner.Places.{followingOf, joinOf, placeOf}
 use Rattle.list_words.specs.declared.Spot.{Spot}
-use Rattle.list_words.proofs.Keeping.{Last, At, Behind, Placed, kept-reach}
+use Rattle.list_words.proofs.Keeping.{Last, At, Behind, SpotOf, kept-reach}
 use Rattle.list_words.proofs.Laid.{Laid}
 use Rattle.list_words.specs.declared.Chain.{Chain}
 use Rattle.list_edits.specs.inner.Chains.{metOf, Held}
@@ -162,7 +162,7 @@ module _ (a : Arena) (ws : List ℕ) (c : Chain) (f : Fine a ws c) (y : units.Ra
   pub stand : Held a ws c (Aim.Reach (y .base)) s → Stand a ws c y s
   stand k = go (reach b met) refl (rw (← k .kept) at (kept-reach (a .base .0) (a .limit .0) met (f .place .arena .above) (f .apart) (y .base)))
     where
-      go : (o : Option Range) → reach b met ≡ o → Placed met o s → Stand a ws c y s
+      go : (o : Option Range) → reach b met ≡ o → SpotOf met o s → Stand a ws c y s
       go none e p = stand-behind (reach-none b (a .base .0) (a .limit .0) met (f .apart) e) p
       go (some q) e p =
           let r = reach-some b (a .base .0) (a .limit .0) (p .front) q (p .rest) (rw (p .split) at (f .apart)) (rw (p .split) at e) in

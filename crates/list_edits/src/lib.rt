@@ -39,14 +39,14 @@ pub struct Join {
 }
 
 // A range put in: the chain afterwards, and the range that holds it.
-pub struct Joined {
+pub struct ChainJoined {
     pub chain: Chain,
     pub range: Range,
 }
 
 // What a range put in or taken out gives: some byte of it is in the list already, or is not in it; or the chain afterwards,
 // and the range that holds it, or held it before.
-pub enum Edited {
+pub enum ChainEdited {
     Refused,
     Done(Chain, Range),
 }
@@ -97,7 +97,7 @@ fn store(words: &mut [u64], start: Addr, head: Addr, edit: Edit) -> Addr
 }
 
 // Writes the place of a range.
-fn put(words: &mut [u64], start: Addr, chain: Chain, range: Range, place: Join) -> Joined
+fn put(words: &mut [u64], start: Addr, chain: Chain, range: Range, place: Join) -> ChainJoined
     requires { ⌜ Putting (start .0) (length (now words)) chain range place ⌝ }
     ensures { λ r. ⌜ (r ≡ joinDone chain range place) × (now (words .exit) ≡ storeWords (start .0) (now (words .entry)) (joinEdit place)) ⌝ }
 {
@@ -120,7 +120,7 @@ fn put(words: &mut [u64], start: Addr, chain: Chain, range: Range, place: Join) 
         ranges,
         bytes,
     };
-    Joined {
+    ChainJoined {
         chain: after,
         range: low,
     }
@@ -128,7 +128,13 @@ fn put(words: &mut [u64], start: Addr, chain: Chain, range: Range, place: Join) 
 
 // Puts a range into a sound list that it does not overlap, joined with the ranges that it touches, at the first range that
 // reaches its base.
-pub fn join_at(arena: Arena, words: &mut [u64], chain: Chain, range: Range, spot: Spot) -> Joined
+pub fn join_at(
+    arena: Arena,
+    words: &mut [u64],
+    chain: Chain,
+    range: Range,
+    spot: Spot,
+) -> ChainJoined
     requires { ⌜ Held arena (now words) chain (Aim.Reach (range .base)) spot ⌝ }
     requires { ⌜ mayAsk arena range ≡ true ⌝ }
     requires { ⌜ overlaps (range .base .0) (range .limit .0) (metOf arena (now words) chain) ≡ false ⌝ }
@@ -139,19 +145,25 @@ pub fn join_at(arena: Arena, words: &mut [u64], chain: Chain, range: Range, spot
 }
 
 // The same for a range that may overlap one of the list: then it is refused.
-pub fn put_at(arena: Arena, words: &mut [u64], chain: Chain, range: Range, spot: Spot) -> Edited
+pub fn put_at(
+    arena: Arena,
+    words: &mut [u64],
+    chain: Chain,
+    range: Range,
+    spot: Spot,
+) -> ChainEdited
     requires { ⌜ Held arena (now words) chain (Aim.Reach (range .base)) spot ⌝ }
     requires { ⌜ mayAsk arena range ≡ true ⌝ }
     ensures { λ r. ⌜ (r ≡ putOf (metOf arena (now (words .entry)) chain) range) × (now (words .exit) ≡ putWords (metOf arena (now (words .entry)) chain) range (arena .base .0) (now (words .entry))) ⌝ }
 {
     let place = placing::place(arena, words, range, spot);
     if place.overlaps {
-        return Edited::Refused;
+        return ChainEdited::Refused;
     }
     let done = put(words, arena.base, chain, range, place);
     let after = done.chain;
     let fresh = done.range;
-    Edited::Done(after, fresh)
+    ChainEdited::Done(after, fresh)
 }
 
 // Whether a range overlaps one of a sound list, by the first range that reaches its base. Where none does, none overlaps.
@@ -194,18 +206,24 @@ pub fn cut_at(arena: Arena, words: &mut [u64], chain: Chain, spot: Spot, part: R
 }
 
 // Takes a range out of the range of a sound list that holds it, at the first range that reaches its limit.
-pub fn cut_out(arena: Arena, words: &mut [u64], chain: Chain, range: Range, spot: Spot) -> Edited
+pub fn cut_out(
+    arena: Arena,
+    words: &mut [u64],
+    chain: Chain,
+    range: Range,
+    spot: Spot,
+) -> ChainEdited
     requires { ⌜ Held arena (now words) chain (Aim.Reach (range .limit)) spot ⌝ }
     requires { ⌜ mayAsk arena range ≡ true ⌝ }
     ensures { λ r. ⌜ (r ≡ cutOf (metOf arena (now (words .entry)) chain) range) × (now (words .exit) ≡ cutOutWords (metOf arena (now (words .entry)) chain) range (arena .base .0) (now (words .entry))) ⌝ }
 {
     let here = spot.here;
     if here.base.is_zero() {
-        return Edited::Refused;
+        return ChainEdited::Refused;
     }
     if range.base.lt(here.base) {
-        return Edited::Refused;
+        return ChainEdited::Refused;
     }
     let left = cut_at(arena, words, chain, spot, range);
-    Edited::Done(left, here)
+    ChainEdited::Done(left, here)
 }

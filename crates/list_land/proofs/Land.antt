@@ -14,7 +14,7 @@ use Rattle.model.proofs.Aiming.{pick-by}
 use Rattle.model.proofs.Land.{Land}
 use Rattle.list_words.specs.inner.Surveys.{kept-of}
 use Rattle.list_words.specs.declared.Spot.{Spot}
-use Rattle.list_words.proofs.Keeping.{Placed, kept-placed}
+use Rattle.list_words.proofs.Keeping.{SpotOf, kept-placed}
 use Rattle.list_words.proofs.Laid.{lay-laid}
 use Rattle.list_land.specs.Calls.{does}
 use Rattle.list_land.specs.Layout.{base, setUp, walkOf, sound, readOf, layout}
@@ -39,7 +39,7 @@ pub looks : (h : ListLand) (ws : List ℕ) (aim : Aim) →
 unfolding lookOf
 looks h ws aim = refl
 
-pub placed-here : (rs : List Range) (o : Option Range) (s : Spot) → Placed rs o s → s .here ≡ here-of o
+pub placed-here : (rs : List Range) (o : Option Range) (s : Spot) → SpotOf rs o s → s .here ≡ here-of o
 placed-here rs none s p = p .here
 placed-here rs (some q) s p = p .here
 

@@ -18,7 +18,7 @@ use Rattle.list_words.proofs.Laid.{Laid, length-lay, laid-lay, laid-host}
 use Rattle.list_words.proofs.Meeting.{walk-laid, aligned-8, few-words}
 use Rattle.list_land.specs.Layout.{base, limit, align, setUp, walkOf, sound, readOf, closed, layout}
 use Rattle.list_land.specs.declared.ListLand.{ListLand}
-use Rattle.list_land.proofs.Sound.{Placed, Fine, fine}
+use Rattle.list_land.proofs.Sound.{SetUpFacts, Fine, fine}
 
 -- what is read as rs
 pub record Reads (h : ListLand) (ws : List ℕ) (rs : List Range) : Type 0 where
@@ -45,7 +45,7 @@ module _ (h : ListLand) (ws : List ℕ) where
   held g s = rw (g, s)
 
 -- descriptors in place are read
-pub read-laid : (h : ListLand) (ws : List ℕ) (rs : List Range) → Placed h (length ws) → setUp h ws ≡ true → Laid (base h) rs ws →
+pub read-laid : (h : ListLand) (ws : List ℕ) (rs : List Range) → SetUpFacts h (length ws) → setUp h ws ≡ true → Laid (base h) rs ws →
     Apart (base h) (limit h) rs → Aligned (align h) rs → readOf (closed h rs) ws ≡ holding rs
 unfolding readOf setUp sound soundWalk walkFrom
 read-laid h ws rs p g d a s =
@@ -68,7 +68,7 @@ same-set-up : (h : ListLand) (ws ws' : List ℕ) → length ws' ≡ length ws �
 unfolding setUp
 same-set-up h ws ws' n g = rw n g
 
-same-placed : (h : ListLand) (ws ws' : List ℕ) → length ws' ≡ length ws → Placed h (length ws) → Placed h (length ws')
+same-placed : (h : ListLand) (ws ws' : List ℕ) → length ws' ≡ length ws → SetUpFacts h (length ws) → SetUpFacts h (length ws')
 same-placed h ws ws' n p = rw n p
 
 pub list-laws : LandLaws layout

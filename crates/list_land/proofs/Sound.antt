@@ -15,10 +15,10 @@ use Rattle.list_land.specs.inner.Parts.{arenaIn, chainIn}
 use Rattle.list_land.specs.declared.ListLand.{ListLand}
 
 -- what a good set-up says of the numbers
-abbrev pub Placed : ListLand → ℕ → Type 0
-Placed h n = edits.Placed (arenaIn h) n
+abbrev pub SetUpFacts : ListLand → ℕ → Type 0
+SetUpFacts h n = edits.SetUpFacts (arenaIn h) n
 
-pub placed : (h : ListLand) (ws : List ℕ) → setUp h ws ≡ true → Placed h (length ws)
+pub placed : (h : ListLand) (ws : List ℕ) → setUp h ws ≡ true → SetUpFacts h (length ws)
 unfolding setUp
 placed h ws e =
     edits.placed (arenaIn h) (length ws) (record {

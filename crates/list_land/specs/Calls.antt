@@ -55,4 +55,3 @@ openedOf b l a ws =
     cond (setUp (newLand b l a) ws)
     (record { land = newLand b l a; answer = 0 })
     (record { land = newLand 0 0 0; answer = setUpNumber SetUp.Bad })
-

@@ -3,7 +3,7 @@ use crate::Changed;
 use crate::ListLand;
 use crate::Look;
 use crate::refused;
-use list_edits::Edited;
+use list_edits::ChainEdited;
 use list_words::Spot;
 use units::Aim;
 use units::Range;
@@ -22,7 +22,7 @@ impl ListLand {
         let RangeCheck::Good = arena.check_range(range) else {
             return refused(self, 4);
         };
-        let Edited::Done(c, old) = list_edits::cut_out(arena, words, self.chain(), range, spot)
+        let ChainEdited::Done(c, old) = list_edits::cut_out(arena, words, self.chain(), range, spot)
         else {
             return refused(self, 1);
         };
@@ -34,7 +34,7 @@ impl ListLand {
         }
     }
 
-    // Takes a range out whose bytes are all free. The range returned is the isolated one that contained it.
+    // PartOf a range out whose bytes are all free. The range returned is the isolated one that contained it.
     pub fn delete(self, words: &mut [u64], range: Range) -> Changed
         ensures { λ r. ⌜ (r ≡ changed (deleted self (now (words .entry)) range)) × (now (words .exit) ≡ deleted self (now (words .entry)) range .words) ⌝ }
     {

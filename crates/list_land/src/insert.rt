@@ -3,7 +3,7 @@ use crate::Changed;
 use crate::ListLand;
 use crate::Look;
 use crate::refused;
-use list_edits::Edited;
+use list_edits::ChainEdited;
 use list_words::Spot;
 use units::Aim;
 use units::Range;
@@ -22,8 +22,13 @@ impl ListLand {
         let RangeCheck::Good = arena.check_range(range) else {
             return refused(self, 4);
         };
-        let Edited::Done(c, fresh) = list_edits::put_at(arena, words, self.chain(), range, spot)
-        else {
+        let ChainEdited::Done(c, fresh) = list_edits::put_at(
+            arena,
+            words,
+            self.chain(),
+            range,
+            spot,
+        ) else {
             return refused(self, 1);
         };
         let chain = c;

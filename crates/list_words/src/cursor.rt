@@ -71,7 +71,7 @@ impl Cursor {
     {
         let mut cur = self;
         while !cur.at.is_zero() {
-            let Met::Found(end, next) = crate::step(arena, words, cur.low, cur.at) else {
+            let Met::Found(end, next) = crate::range_at(arena, words, cur.low, cur.at) else {
                 return Soundness::Damaged;
             };
             cur = cur.on(end, next);

@@ -18,7 +18,7 @@ ghost use Prim.Native.Nat.{_≤_};
 ghost use lib.ListN.{length};
 ghost use Rattle.units.specs.inner.Aims.{none-range};
 ghost use Rattle.units.specs.Words.{addr};
-ghost use Rattle.list_words.specs.Words.{stepAt};
+ghost use Rattle.list_words.specs.Words.{rangeAt};
 ghost use Rattle.list_words.specs.inner.Descriptors.{Standing, descriptorAt};
 ghost use Rattle.list_words.specs.inner.Surveys.{Ready, spot, at-end, surveyOf};
 
@@ -81,10 +81,10 @@ impl Spot {
 }
 
 // What the words say of a range at `at`, where none may begin below `low`.
-pub fn step(arena: Arena, words: &[u64], low: Addr, at: Addr) -> Met
+pub fn range_at(arena: Arena, words: &[u64], low: Addr, at: Addr) -> Met
     requires { ⌜ Ready arena (length (now words)) ⌝ }
     requires { ⌜ arena .base .0 ≤ low .0 ⌝ }
-    ensures { λ r. ⌜ r ≡ stepAt (arena .base .0) (arena .limit .0) (arena .align .0) (now (words .entry)) (low .0) (at .0) ⌝ }
+    ensures { λ r. ⌜ r ≡ rangeAt (arena .base .0) (arena .limit .0) (arena .align .0) (now (words .entry)) (low .0) (at .0) ⌝ }
 {
     if !arena.may_begin(low, at) {
         return Met::BadBase;
@@ -137,7 +137,7 @@ fn weigh(arena: Arena, words: &[u64], chain: Chain, aim: Aim) -> Verdict
     let mut kept = Spot::behind(prev);
     let mut cur = Cursor::start(arena, chain.head);
     while !cur.at.is_zero() {
-        let Met::Found(end, next) = step(arena, words, cur.low, cur.at) else {
+        let Met::Found(end, next) = range_at(arena, words, cur.low, cur.at) else {
             return Verdict::Damaged;
         };
         let here = Range::new(cur.at, end);

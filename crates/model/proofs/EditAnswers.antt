@@ -12,7 +12,7 @@ use Rattle.units.proofs.Tests.{by}
 use Rattle.model.specs.Calls.{Arena, Call, insert, delete, refused, accepted, good-range}
 use Rattle.model.specs.inner.Lists.{overlaps, holds, holder, insert-in, delete-from}
 use Rattle.model.specs.Marks.{Range, rng, struct}
-use Rattle.model.specs.inner.Steps.{list-ops, fits, step}
+use Rattle.model.specs.inner.Steps.{list-ops, room-for, step}
 use Rattle.model.proofs.Land.{Land}
 use Rattle.model.proofs.Looking.{Kept, Changes, saw-5, saw-6, refused-change, step-refused, step-done, done-change}
 use Rattle.model.proofs.Requests.{range-refused}
@@ -26,8 +26,8 @@ pub record Edits (a : Arena) (rs : List Range) (c : Call) : Type 0 where
   pub holds-it : Range
   pub is-4 : good ≡ false → step list-ops a c rs ≡ record { out = refused 4; next = rs }
   pub is-1 : good ≡ true → bad ≡ true → step list-ops a c rs ≡ record { out = refused 1; next = rs }
-  pub is-3 : good ≡ true → bad ≡ false → fits (a .room) (length new) ≡ false → step list-ops a c rs ≡ record { out = refused 3; next = rs }
-  pub is-0 : good ≡ true → bad ≡ false → fits (a .room) (length new) ≡ true → step list-ops a c rs ≡ record { out = accepted holds-it (rng 0 0); next = new }
+  pub is-3 : good ≡ true → bad ≡ false → room-for (a .room) (length new) ≡ false → step list-ops a c rs ≡ record { out = refused 3; next = rs }
+  pub is-0 : good ≡ true → bad ≡ false → room-for (a .room) (length new) ≡ true → step list-ops a c rs ≡ record { out = accepted holds-it (rng 0 0); next = new }
 
 module _ (a : Arena) (rs : List Range) (b l : ℕ) where
   pub insert-is-4 : good-range a b l ≡ false → step list-ops a (insert b l) rs ≡ record { out = refused 4; next = rs }
@@ -78,20 +78,20 @@ module _ {H L S C F : Type 0} (I : Land H L S C F) (h : H) (ws : List ℕ) (aim 
       edit-1 o = refused-change I h ws c 1 (step-refused I h ws aim s k c 1 refl (E .is-1 g o))
 
       module _ (o : E .bad ≡ false) where
-        pub edit-3 : fits (I .layout .arena h ws .room) (length (E .new)) ≡ false →
+        pub edit-3 : room-for (I .layout .arena h ws .room) (length (E .new)) ≡ false →
             (w : C) → w ≡ I .change h 3 none-range → (vs : List ℕ) → vs ≡ ws → Changes I w vs (I .does c h ws)
         edit-3 f = refused-change I h ws c 3 (step-refused I h ws aim s k c 3 refl (E .is-3 g o f))
 
-        pub edit-0 : fits (I .layout .arena h ws .room) (length (E .new)) ≡ true →
+        pub edit-0 : room-for (I .layout .arena h ws .room) (length (E .new)) ≡ true →
             (z : H) → z ≡ I .layout .close h (E .new) → (x : units.Range) → x ≡ struct (E .holds-it) →
             (vs : List ℕ) → vs ≡ I .layout .words h ws (E .new) → Changes I (I .change z 0 x) vs (I .does c h ws)
         edit-0 f = done-change I h ws aim s k c (E .holds-it) (rng 0 0) (E .new) (E .is-0 g o f)
 
       -- the number of the answer, by its tests
-      pub edit-number : cond (E .bad) 1 (cond (fits (I .layout .arena h ws .room) (length (E .new))) 0 3) ≡ I .does c h ws .out .answer
+      pub edit-number : cond (E .bad) 1 (cond (room-for (I .layout .arena h ws .room) (length (E .new))) 0 3) ≡ I .does c h ws .out .answer
       edit-number =
           by (E .bad)
           (λ o. rw (step-refused I h ws aim s k c 1 refl (E .is-1 g o), o))
-          (λ o. by (fits (I .layout .arena h ws .room) (length (E .new)))
+          (λ o. by (room-for (I .layout .arena h ws .room) (length (E .new)))
           (λ f. rw (step-done I h ws aim s k c (E .holds-it) (rng 0 0) (E .new) (E .is-0 g o f), o, f))
           (λ f. rw (step-refused I h ws aim s k c 3 refl (E .is-3 g o f), o, f)))

@@ -27,7 +27,7 @@ use Rattle.model.specs.Calls.{Call, find, good-size, find-size}
 use Rattle.model.specs.inner.Lists.{delete-from}
 use Rattle.model.specs.Marks.{Range, struct, plain}
 use Rattle.model.specs.inner.Picks.{here-of}
-use Rattle.model.specs.inner.Steps.{choose, part, fits}
+use Rattle.model.specs.inner.Steps.{choose, part}
 use Rattle.model.proofs.Aiming.{by-find}
 use Rattle.model.proofs.Bytes.{mem-proper}
 use Rattle.model.proofs.Checks.{size-bad, size-good}
@@ -37,7 +37,7 @@ use Rattle.model.proofs.Counting.{cut-end}
 use Rattle.model.proofs.Finding.{find-none, find-takes}
 use Rattle.model.proofs.Land.{Land}
 use Rattle.model.proofs.Looking.{Kept, Finds, bad-is-5, damaged-is-6, refused-find, fine, is-kept, mem-above, step-refused, done-find}
-use Rattle.model.proofs.Parts.{Takes, mem-stands, part-takes}
+use Rattle.model.proofs.Parts.{PartOf, mem-stands, part-takes}
 use Rattle.model.proofs.Requests.{find-size-rules, size-refused}
 
 fits-fewer : (o : Option ℕ) (m n : ℕ) → m ≤ n → fits o n ≡ true → fits o m ≡ true
@@ -139,11 +139,11 @@ module _ {H L S C F : Type 0} (I : Land H L S C F) (h : H) (ws : List ℕ) where
           is-part : y ≡ struct p
           is-part = ey ∙ ap₂ (λ (x : ℕ) (v : units.Range). struct (part w mode x (plain v))) (size-is n a ea m em) (choice .here)
 
-          pub find-part : Takes (I .layout .arena h ws .align) (I .ranges h ws) (plain (I .here s)) (plain y)
+          pub find-part : PartOf (I .layout .arena h ws .align) (I .ranges h ws) (plain (I .here s)) (plain y)
           find-part =
               let c = choose-mem w want rs q (choice .is) in
               let d = fine I h ws aim s k .canon in
-              let t : Takes (I .layout .arena h ws .align) rs q p =
+              let t : PartOf (I .layout .arena h ws .align) rs q p =
               part-takes (I .layout .arena h ws) w mode want rs q
               (mem-stands (I .layout .arena h ws .align) (I .layout .arena h ws .base) (I .layout .arena h ws .limit) rs q (d .apart) (d .aligned) (c .0)) (c .1)
               (find-size-rules (I .layout .arena h ws) w (n .0) g) in
@@ -155,7 +155,7 @@ module _ {H L S C F : Type 0} (I : Land H L S C F) (h : H) (ws : List ℕ) where
           -- no range more is left, so there is room
           pub find-fewer : length less ≤ length (I .ranges h ws)
           find-fewer =
-              let t : Takes (I .layout .arena h ws .align) rs q (plain y) = rw (choice .here) at find-part in
+              let t : PartOf (I .layout .arena h ws .align) rs q (plain y) = rw (choice .here) at find-part in
               cut-end (I .layout .arena h ws .base) (I .layout .arena h ws .limit) rs q (y .base .0) (y .limit .0) (fine I h ws aim s k .canon .apart)
               (choose-mem w want rs q (choice .is) .0) (t .low) (t .proper) (t .high) (t .at-end)
 

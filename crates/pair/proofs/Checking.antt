@@ -109,7 +109,7 @@ check-up p ws vs aim r er f = rw (set-up-false (setUp p ws vs) r er f)
 
 -- the look of a call whose set-up is good
 module _ (p : Pair) (ws vs : List ℕ) (aim : Aim) (good : setUp p ws vs ≡ true) where
-  at : list-sound.Placed (p .list) (length ws)
+  at : list-sound.SetUpFacts (p .list) (length ws)
   at = list-sound.placed (p .list) ws (list-up p ws vs good)
 
   pub check-align : (b : units.Arena) → b ≡ list-parts.arenaIn (p .list) → goodAlign (b .align .0) ≡ true

@@ -22,7 +22,7 @@ use Rattle.block_words.specs.Words.{fill}
 use Rattle.block_words.specs.inner.Surveys as places
 use Rattle.block_words.specs.declared.Entry.{Entry}
 use Rattle.block_edits.specs.inner.Edits.{Sorted, cutOf, cutWords}
-use Rattle.block_edits.specs.declared.Edited.{Edited}
+use Rattle.block_edits.specs.declared.TableEdited.{TableEdited}
 use Rattle.block_edits.proofs.Answered.{cut-refused, cut-full, cut-done, cut-words}
 use Rattle.block_land.specs.Layout as block
 use Rattle.block_land.specs.inner.Parts as block-parts
@@ -105,32 +105,32 @@ module _ (p : Pair) (ws vs : List ℕ) (y : units.Range) (s : Spot) (e : Entry) 
     pub cut-sorted : Sorted vs (p .block .ranges)
     cut-sorted = block-requests.sorted (p .block) vs (readable p ws vs y s e (u .asked))
 
-    pub cut-spot : places.Spot vs (p .block .ranges) (y .limit .0) (e .number)
+    pub cut-spot : places.FirstReach vs (p .block .ranges) (y .limit .0) (e .number)
     cut-spot = block-requests.looked-spot (p .block) vs (y .limit) e (block-looked p ws vs (reachLimit y) s e (u .asked .checked))
 
-    module _ (v : Edited) (vs' : List ℕ) (d : (v ≡ cutOf vs (p .block .ranges) y) × (vs' ≡ cutWords vs (p .block .ranges) y)) where
-      pub none-holds : v ≡ Edited.Refused → Nowhere p ws vs' y
+    module _ (v : TableEdited) (vs' : List ℕ) (d : (v ≡ cutOf vs (p .block .ranges) y) × (vs' ≡ cutWords vs (p .block .ranges) y)) where
+      pub none-holds : v ≡ TableEdited.Refused → Nowhere p ws vs' y
       none-holds f =
           let q = sym (d .0) ∙ f in
-          subst (λ (x : List ℕ). Nowhere p ws x y) (sym (d .1 ∙ cut-words vs (p .block .ranges) y Edited.Refused q))
+          subst (λ (x : List ℕ). Nowhere p ws x y) (sym (d .1 ∙ cut-words vs (p .block .ranges) y TableEdited.Refused q))
           (record { spot = s; entry = e; asked = u; none = cut-refused vs (p .block .ranges) y q })
 
-      pub after-none : v ≡ Edited.Refused → (w : Changed) (ws₂ vs₂ : List ℕ) → Deletes p ws vs' y w ws₂ vs₂ → Deletes p ws vs y w ws₂ vs₂
+      pub after-none : v ≡ TableEdited.Refused → (w : Changed) (ws₂ vs₂ : List ℕ) → Deletes p ws vs' y w ws₂ vs₂ → Deletes p ws vs y w ws₂ vs₂
       after-none f w ws₂ vs₂ g =
-          subst (λ (x : List ℕ). Deletes p ws x y w ws₂ vs₂) (d .1 ∙ cut-words vs (p .block .ranges) y Edited.Refused (sym (d .0) ∙ f)) g
+          subst (λ (x : List ℕ). Deletes p ws x y w ws₂ vs₂) (d .1 ∙ cut-words vs (p .block .ranges) y TableEdited.Refused (sym (d .0) ∙ f)) g
 
-      pub spills : v ≡ Edited.Full → Spilling p ws vs' y s e
+      pub spills : v ≡ TableEdited.Full → Spilling p ws vs' y s e
       spills f =
           let q = sym (d .0) ∙ f in
           let o = cut-full vs (p .block .ranges) y q in
-          subst (λ (x : List ℕ). Spilling p ws x y s e) (sym (d .1 ∙ cut-words vs (p .block .ranges) y Edited.Full q))
+          subst (λ (x : List ℕ). Spilling p ws x y s e) (sym (d .1 ∙ cut-words vs (p .block .ranges) y TableEdited.Full q))
           (record { asked = u; held = not-false (holds b l qs) (o .0); full = o .1 })
 
-      pub after-spill : v ≡ Edited.Full → (w : Changed) (ws₂ vs₂ : List ℕ) → Deletes p ws vs' y w ws₂ vs₂ → Deletes p ws vs y w ws₂ vs₂
+      pub after-spill : v ≡ TableEdited.Full → (w : Changed) (ws₂ vs₂ : List ℕ) → Deletes p ws vs' y w ws₂ vs₂ → Deletes p ws vs y w ws₂ vs₂
       after-spill f w ws₂ vs₂ g =
-          subst (λ (x : List ℕ). Deletes p ws x y w ws₂ vs₂) (d .1 ∙ cut-words vs (p .block .ranges) y Edited.Full (sym (d .0) ∙ f)) g
+          subst (λ (x : List ℕ). Deletes p ws x y w ws₂ vs₂) (d .1 ∙ cut-words vs (p .block .ranges) y TableEdited.Full (sym (d .0) ∙ f)) g
 
-      module _ (x : units.Range) (m : ℕ) (f : v ≡ Edited.Done x m) (z : Size) (ez : z .0 ≡ y .limit .0 - y .base .0) where
+      module _ (x : units.Range) (m : ℕ) (f : v ≡ TableEdited.Done x m) (z : Size) (ez : z .0 ≡ y .limit .0 - y .base .0) where
         pub cut-room : z .0 ≤ p .block .bytes .0
         cut-room = block-edits.delete-room (p .block) vs y e (block-looked p ws vs (reachLimit y) s e (u .asked .checked)) (u .asked .good) v vs' d x m f z ez
 
@@ -147,4 +147,4 @@ module _ (p : Pair) (ws vs : List ℕ) (y : units.Range) (s : Spot) (e : Entry) 
             does (u .asked) (holder b l qs) rs (tableLess (p .block) vs y) (rw (u .asked .good, u .unlisted, c, o .fits))
             x (o .range) (p .list) (sym (list-laws.handle-back (p .list) ws rs lf refl))
             h (eh ∙ block-requests.closes (p .block) (tableLess (p .block) vs y) m t (o .count) (omega arith))
-            ws vs' (sym (lay-laid (list.base (p .list)) rs ws (lf .laid))) (d .1 ∙ cut-words vs (p .block .ranges) y (Edited.Done x m) q)
+            ws vs' (sym (lay-laid (list.base (p .list)) rs ws (lf .laid))) (d .1 ∙ cut-words vs (p .block .ranges) y (TableEdited.Done x m) q)

@@ -16,14 +16,13 @@ use Rattle.list_words.specs.inner.Surveys.{walkOf, kept-of}
 use Rattle.list_words.specs.declared.Spot as list-spot
 use Rattle.list_edits.specs.inner.Chains as chains
 use Rattle.list_edits.specs.inner.Chains.{metOf, Held, mayAsk}
-use Rattle.list_edits.specs.declared.Joined as list-joined
-use Rattle.block_words.specs.inner.Surveys.{Spot}
+use Rattle.list_edits.specs.declared.ChainJoined as list-joined
 use Rattle.list_land.specs.Layout as list
 use Rattle.list_land.specs.inner.Parts as list-parts
 use Rattle.list_land.specs.declared.ListLand.{ListLand}
 use Rattle.block_edits.specs.inner.Edits as edits
 use Rattle.block_edits.specs.inner.Edits.{Sorted}
-use Rattle.block_edits.specs.declared.Joined.{Joined}
+use Rattle.block_edits.specs.declared.TableJoined.{Joined}
 use Rattle.block_edits.proofs.Answered.{Did}
 use Rattle.block_land.specs.Layout as block
 use Rattle.block_land.specs.inner.Parts as block-parts

@@ -21,8 +21,7 @@ use Rattle.units.proofs.Cases.{set-up-true, set-up-false}
 use Rattle.units.proofs.Tests.{by}
 use Rattle.units.proofs.rules.SizeCheck as size-type
 use Rattle.model.specs.Calls as land
-use Rattle.model.specs.Calls.{Arena, Step, good-size, size-number, find-size}
-use Rattle.model.specs.Flushing.{unlimited}
+use Rattle.model.specs.Calls.{Arena, Step, good-size, size-number, find-size, unbounded}
 use Rattle.model.specs.Marks.{Range}
 use Rattle.model.specs.inner.Steps.{list-ops, choose, step}
 use Rattle.model.proofs.Checks.{size-bad, size-good}
@@ -116,7 +115,7 @@ module _ (p : Pair) (ws vs : List ℕ) (w : Which) (n : Size) (mode : Mode) (s :
         there = list-there w (s .here) (e .here) (sym et ∙ h);
       }
 
-      list-arena : unlimited (block.arenaOf (p .block) vs) ≡ list.arenaOf (p .list)
+      list-arena : unbounded (block.arenaOf (p .block) vs) ≡ list.arenaOf (p .list)
       list-arena = rw (one .base, one .limit, one .align)
 
       list-is : found p ws vs w (n .0) mode ≡ record {

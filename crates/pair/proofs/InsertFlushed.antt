@@ -29,7 +29,7 @@ use Rattle.flush.specs.Flush.{checkOf}
 use Rattle.flush.specs.declared.FlushCheck.{FlushCheck}
 use Rattle.pair_model.specs.Pairs.{insert}
 use Rattle.pair_model.proofs.InsertTurns.{no-overlap}
-use Rattle.pair.specs.inner.Inserts.{countsOf, flushOf, flushedCounts, flushedNodes, closedBy, entered, enteredWords, enteredNodes, Open, Bare, Placed}
+use Rattle.pair.specs.inner.Inserts.{countsOf, flushOf, flushedCounts, flushedNodes, closedBy, entered, enteredWords, enteredNodes, Open, Bare, Preparable}
 use Rattle.pair.specs.declared.Changed.{Changed}
 use Rattle.pair.specs.declared.Pair.{Pair}
 use Rattle.pair.specs.declared.insert.Counts.{Counts}
@@ -60,7 +60,7 @@ module _ (p : Pair) (ws vs : List ℕ) (y : units.Range) (s : Spot) (e : Entry) 
   known : After p ws vs
   known = after p ws vs good
 
-  pub bare-placed : Placed p ws vs y e
+  pub bare-placed : Preparable p ws vs y e
   bare-placed = record { good = good; place = table-asks p ws vs y s e (k .wanted) .1 .1 }
 
   -- the flushed pair has no byte of the range

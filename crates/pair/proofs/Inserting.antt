@@ -51,7 +51,7 @@ module _ (p : Pair) (ws vs : List ℕ) (y : units.Range) (s : Spot) where
 
   -- WHETHER A BYTE IS FREE
   module _ (e : Entry) (k : Wanted p ws vs y s e) where
-    pub table-asks : Sorted vs (p .block .ranges) × ((y .base .0 < y .limit .0) × places.Spot vs (p .block .ranges) (y .base .0) (e .number))
+    pub table-asks : Sorted vs (p .block .ranges) × ((y .base .0 < y .limit .0) × places.FirstReach vs (p .block .ranges) (y .base .0) (e .number))
     table-asks =
         let m = block-looked p ws vs (reachBase y) s e (k .checked) in
         (block-requests.sorted (p .block) vs (readable p ws vs y s e k), (order p ws vs y s e k, block-requests.looked-spot (p .block) vs (y .base) e m))

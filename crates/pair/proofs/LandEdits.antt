@@ -17,7 +17,7 @@ use Rattle.list_words.specs.declared.Chain.{Chain}
 use Rattle.list_words.specs.declared.Spot.{Spot}
 use Rattle.list_edits.specs.inner.Chains as chains
 use Rattle.list_edits.specs.inner.Chains.{metOf, Held, Holding, mayAsk, joinedOf, joinedWords, cutChain}
-use Rattle.list_edits.specs.declared.Joined.{Joined}
+use Rattle.list_edits.specs.declared.ChainJoined.{ChainJoined}
 use Rattle.list_land.specs.Layout as list
 use Rattle.list_land.specs.inner.Parts.{arenaIn, chainIn, closedWith, Looked, reachBase}
 use Rattle.list_land.specs.declared.ListLand.{ListLand}
@@ -40,17 +40,17 @@ module _ (h : ListLand) (ws : List ℕ) (y : units.Range) (a : Arena) (ea : a �
       Held a ws c (reachBase y) s × ((mayAsk a y ≡ true) × (overlaps (y .base .0) (y .limit .0) (metOf a ws c) ≡ false))
   join-asks s k g o = (list-requests.looked-held h ws (reachBase y) s k a ea c ec, (rw ea g, rw (ea, ec) o))
 
-  pub join-done : (j : Joined) (ws' : List ℕ) → (j ≡ joinedOf (metOf a ws c) y) × (ws' ≡ joinedWords (metOf a ws c) y (a .base .0) ws) →
+  pub join-done : (j : ChainJoined) (ws' : List ℕ) → (j ≡ joinedOf (metOf a ws c) y) × (ws' ≡ joinedWords (metOf a ws c) y (a .base .0) ws) →
       (j ≡ joinedOf (list.walkOf h ws .met) y) × (ws' ≡ lay (list.base h) (listMore h ws y) ws)
   join-done j ws' e = rw (ea, ec) at e
 
   -- and the list closed
-  pub join-closed : (j : Joined) (ws' : List ℕ) → (j ≡ joinedOf (metOf a ws c) y) × (ws' ≡ joinedWords (metOf a ws c) y (a .base .0) ws) →
+  pub join-closed : (j : ChainJoined) (ws' : List ℕ) → (j ≡ joinedOf (metOf a ws c) y) × (ws' ≡ joinedWords (metOf a ws c) y (a .base .0) ws) →
       (z : ListLand) → z ≡ closedWith h (j .chain .head) (j .chain .ranges) (j .chain .bytes) →
       (z ≡ list.closed h (listMore h ws y)) × (ws' ≡ lay (list.base h) (listMore h ws y) ws)
   join-closed j ws' e z ez =
       let d = join-done j ws' e in
-      (list-requests.closes h (listMore h ws y) (j .chain) (ap (λ (x : Joined). x .chain) (d .0)) z ez, d .1)
+      (list-requests.closes h (listMore h ws y) (j .chain) (ap (λ (x : ChainJoined). x .chain) (d .0)) z ez, d .1)
 
   -- A PART TAKEN OUT OF IT
   pub take-listed-holding : (s : Spot) → TakingListed h ws y s → Holding a ws c s y

@@ -15,14 +15,14 @@ use Rattle.model.proofs.Flushing.{flush-still}
 use Rattle.model.proofs.Places.{apart-rest}
 use Rattle.list_words.specs.Laying.{head-of}
 use Rattle.list_land.specs.Layout as list
-use Rattle.block_words.specs.inner.Surveys.{Ordered, Spot}
+use Rattle.block_words.specs.inner.Surveys.{Ordered}
 use Rattle.block_words.specs.Words.{fill}
 use Rattle.block_words.specs.declared.Entry.{Entry}
 use Rattle.block_land.specs.Layout as block
 use Rattle.block_land.specs.declared.BlockLand.{BlockLand}
 use Rattle.block_land.proofs.Requests.{sorted}
 use Rattle.block_land.proofs.LayoutLaws.{words-back, handle-back}
-use Rattle.pair.specs.inner.Inserts.{flushOf, flushedCounts, flushedNodes, Placed}
+use Rattle.pair.specs.inner.Inserts.{flushOf, flushedCounts, flushedNodes, Preparable}
 use Rattle.pair.specs.declared.Pair.{Pair}
 use Rattle.pair.specs.declared.insert.Counts.{Counts}
 use Rattle.pair.proofs.AfterFlush.{flushedPair, After, after}
@@ -33,7 +33,7 @@ none-gone lo hi [] left z a e = refl
 none-gone lo hi (g ∷ gone) [] z a e = absurd (omega (arith, a .0))
 none-gone lo hi (g ∷ gone) (r ∷ rs) z a e = let b = apart-rest (suc (g .limit)) hi gone r rs (a .3) in absurd (omega (arith, a .1, b .0))
 
-module _ (p : Pair) (ws vs : List ℕ) (y : units.Range) (e : Entry) (k : Placed p ws vs y e)
+module _ (p : Pair) (ws vs : List ℕ) (y : units.Range) (e : Entry) (k : Preparable p ws vs y e)
     (c : Counts) (vs' : List ℕ) (f : (c ≡ flushedCounts p ws vs) × (vs' ≡ flushedNodes p ws vs)) where
   abbrev fl : Flush
   fl = flushOf p ws vs

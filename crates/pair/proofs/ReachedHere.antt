@@ -21,7 +21,7 @@ use Rattle.model.proofs.Reaching.{reach}
 use Rattle.model.proofs.Surrounding.{held}
 use Rattle.list_words.specs.inner.Surveys.{kept-of}
 use Rattle.list_words.specs.declared.Spot.{Spot}
-use Rattle.list_words.proofs.Keeping.{Placed, kept-reach}
+use Rattle.list_words.proofs.Keeping.{SpotOf, kept-reach}
 use Rattle.block_words.specs.inner.Surveys.{entryOf}
 use Rattle.block_words.specs.declared.Entry.{Entry}
 use Rattle.block_edits.proofs.Entering.{entry-here}
@@ -49,7 +49,7 @@ reach-holder b l lo hi (r ∷ rs) o a e =
     let m = mem-from (suc (r .limit)) hi rs (holder b l rs) (a .3) (w .mem) in
     rw (f, lt-leb l (r .limit) (omega arith)) (reach-holder b l (suc (r .limit)) hi rs o (a .3) h))
 
-placed-here : (rs : List Range) (o : Option Range) (s : Spot) → Placed rs o s → s .here ≡ here-of o
+placed-here : (rs : List Range) (o : Option Range) (s : Spot) → SpotOf rs o s → s .here ≡ here-of o
 placed-here rs none s p = p .here
 placed-here rs (some q) s p = p .here
 

@@ -6,7 +6,7 @@ use crate::PairCheck;
 use crate::edits::take_listed;
 use crate::edits::take_tabled;
 use crate::refused;
-use block_edits::Edited;
+use block_edits::TableEdited;
 use block_words::Entry;
 use list_words::Spot;
 use units::Aim;
@@ -85,9 +85,9 @@ impl Pair {
         ensures { λ r. ⌜ (r ≡ changed (deleted self (now (words .entry)) (now (nodes .entry)) range)) × (now (words .exit) ≡ deleted self (now (words .entry)) (now (nodes .entry)) range .words .list) × (now (nodes .exit) ≡ deleted self (now (words .entry)) (now (nodes .entry)) range .words .block) ⌝ }
     {
         match block_edits::cut_out(nodes, self.block.ranges, entry.number, range) {
-            Edited::Refused => self.refuse_delete(words, nodes, range),
-            Edited::Full => self.hand_over(words, nodes, range, spot, entry),
-            Edited::Done(old, count) => {
+            TableEdited::Refused => self.refuse_delete(words, nodes, range),
+            TableEdited::Full => self.hand_over(words, nodes, range, spot, entry),
+            TableEdited::Done(old, count) => {
                 let list = self.list;
                 let land = self.block;
                 let bytes = land.bytes.minus(range.size());
@@ -146,7 +146,7 @@ impl Pair {
         self.delete_good(words, nodes, range, spot, entry)
     }
 
-    // Takes a range out of the land that holds all of it. The range returned is the isolated one of that land that
+    // PartOf a range out of the land that holds all of it. The range returned is the isolated one of that land that
     // contained it before. 7 if its bytes are all free, in both lands.
     pub fn delete(self, words: &mut [u64], nodes: &mut [u64], range: Range) -> Changed
         ensures { λ r. ⌜ (r ≡ changed (deleted self (now (words .entry)) (now (nodes .entry)) range)) × (now (words .exit) ≡ deleted self (now (words .entry)) (now (nodes .entry)) range .words .list) × (now (nodes .exit) ≡ deleted self (now (words .entry)) (now (nodes .entry)) range .words .block) ⌝ }

@@ -18,7 +18,7 @@ ghost use Rattle.flush.specs.Flush.{checkOf};
 ghost use Rattle.flush.specs.declared.FlushCheck.the-variants.{Good};
 ghost use Rattle.pair.specs.Calls.{changed, inserted};
 ghost use Rattle.pair.specs.inner.Parts.{Checked};
-ghost use Rattle.pair.specs.inner.Inserts.{flushedCounts, flushedNodes, closedBy, Roomless, Open, enterList, enterWords, entered, enteredWords, enteredNodes, takenIn, Wanted, Bare, Placed};
+ghost use Rattle.pair.specs.inner.Inserts.{flushedCounts, flushedNodes, closedBy, Roomless, Open, enterList, enterWords, entered, enteredWords, enteredNodes, takenIn, Wanted, Bare, Preparable};
 
 // What an insert works on until it closes both handles: the chain of the list, the ranges and the bytes of the table.
 pub struct Counts {
@@ -103,12 +103,12 @@ impl Pair {
         i: usize,
     ) -> Entered
         requires { ⌜ Open (closedBy self rest) (now words) (now nodes) range spot ⌝ }
-        requires { ⌜ places.Spot (now nodes) (rest .ranges) (range .base .0) i ⌝ }
+        requires { ⌜ places.FirstReach (now nodes) (rest .ranges) (range .base .0) i ⌝ }
         ensures { λ r. ⌜ (r ≡ entered (closedBy self rest) (now (words .entry)) (now (nodes .entry)) range) × (now (words .exit) ≡ enteredWords (closedBy self rest) (now (words .entry)) (now (nodes .entry)) range) × (now (nodes .exit) ≡ enteredNodes (closedBy self rest) (now (nodes .entry)) range) ⌝ }
     {
         match block_edits::join_at(nodes, rest.ranges, i, range) {
-            block_edits::Joined::Full => self.enter_list(rest, words, range, spot),
-            block_edits::Joined::Done(fresh, count) => {
+            block_edits::TableJoined::Full => self.enter_list(rest, words, range, spot),
+            block_edits::TableJoined::Done(fresh, count) => {
                 let chain = rest.chain;
                 let held = rest.bytes;
                 let bytes = held.plus(range.size());
@@ -151,8 +151,8 @@ impl Pair {
     // The flush, and the number of the first pair behind it that reaches the base of a range: where nothing was moved, the one
     // that was kept.
     fn prepared(self, words: &[u64], nodes: &mut [u64], range: Range, entry: Entry) -> Prepared
-        requires { ⌜ Placed self (now words) (now nodes) range entry ⌝ }
-        ensures { λ r. ⌜ ((r .counts ≡ flushedCounts self (now (words .entry)) (now (nodes .entry))) × (now (nodes .exit) ≡ flushedNodes self (now (words .entry)) (now (nodes .entry)))) × places.Spot (now (nodes .exit)) (r .counts .ranges) (range .base .0) (r .place) ⌝ }
+        requires { ⌜ Preparable self (now words) (now nodes) range entry ⌝ }
+        ensures { λ r. ⌜ ((r .counts ≡ flushedCounts self (now (words .entry)) (now (nodes .entry))) × (now (nodes .exit) ≡ flushedNodes self (now (words .entry)) (now (nodes .entry)))) × places.FirstReach (now (nodes .exit)) (r .counts .ranges) (range .base .0) (r .place) ⌝ }
     {
         let counts = self.flushed(words, nodes);
         if counts.chain.head.same(self.list.head) {
@@ -161,7 +161,7 @@ impl Pair {
                 place: entry.number,
             };
         }
-        let place = seeks::spot(nodes, counts.ranges as usize, range.base);
+        let place = seeks::first_reach(nodes, counts.ranges as usize, range.base);
         Prepared { counts, place }
     }
 

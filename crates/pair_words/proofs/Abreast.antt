@@ -12,7 +12,7 @@ use Rattle.units.specs.declared.Range as units
 use Rattle.units.specs.declared.rules.Arena.{Arena}
 use Rattle.model.specs.Marks.{Range, rng, struct}
 use Rattle.model.specs.inner.Lists.{Apart}
-use Rattle.list_words.specs.Words.{Walk, clean, walkFrom, stepAt}
+use Rattle.list_words.specs.Words.{Walk, clean, walkFrom, rangeAt}
 use Rattle.list_words.specs.inner.Surveys.{Ready, walkIn, walkOf, startAt, onward, Along}
 use Rattle.list_words.specs.declared.Met.{Met}
 use Rattle.list_words.specs.declared.cursor.Cursor.{Cursor}
@@ -60,7 +60,7 @@ module _ (a : Arena) (ws : List ℕ) (ready : Ready a (length ws)) (vs : List �
           sym (s .same (d .clean-end)) ∙ ap (λ (rs : List Range). meet rs (behind vs n i)) (d .none-left)
 
       -- a range comes
-      module _ (f : not z ≡ true) (m : Met) (em : m ≡ stepAt (a .base .0) (a .limit .0) (a .align .0) ws (c .low .0) (c .at .0))
+      module _ (f : not z ≡ true) (m : Met) (em : m ≡ rangeAt (a .base .0) (a .limit .0) (a .align .0) ws (c .low .0) (c .at .0))
           (e x : Addr) (fm : m ≡ Met.Found e x) where
         abbrev r : Range
         r = rng (c .at .0) (e .0)

@@ -18,7 +18,7 @@ use Rattle.units.specs.declared.rules.Soundness.{Soundness}
 use Rattle.units.proofs.Cases.{sound-true, sound-false}
 use Rattle.units.proofs.Tests.{by, and-left}
 use Rattle.units.proofs.Ways.{said-true}
-use Rattle.list_words.specs.Words.{Walk, clean, stepAt, soundWalk}
+use Rattle.list_words.specs.Words.{Walk, clean, rangeAt, soundWalk}
 use Rattle.list_words.specs.inner.Seeks.{Come}
 use Rattle.list_words.specs.inner.Surveys.{Ready, walkOf, onward, countsOf, Near, Along, kept-of}
 use Rattle.list_words.specs.declared.Chain.{Chain}
@@ -32,9 +32,9 @@ use Rattle.list_words.proofs.Surveying.{sound-clean}
 use Rattle.block_words.specs.Words.{pairs}
 use Rattle.block_words.specs.inner.Tallies.{behind}
 use Rattle.pair_model.specs.PairLayouts.{meet}
-use Rattle.pair_words.specs.inner.Besides.{besideOf, Abreast, SoughtBeside, soundBeside, surveyBeside}
+use Rattle.pair_words.specs.inner.Besides.{besideOf, Abreast, SeeksBeside, soundBeside, surveyBeside}
 use Rattle.pair_words.specs.declared.walks.Beside.{Beside}
-use Rattle.pair_words.specs.declared.walks.Sought.{Sought}
+use Rattle.pair_words.specs.declared.walks.SoughtBeside.{SoughtBeside}
 use Rattle.pair_words.proofs.Abreast.{abreast-done, abreast-overlaps, abreast-next}
 
 -- damage: the list is not sound, or overlaps the table if it ends well
@@ -92,7 +92,7 @@ module _ (a : Arena) (ws : List ℕ) (ready : Ready a (length ws)) (h : Chain) (
       let o = abreast-done a ws ready vs n (h .head .0) c i (s .along) (s .abreast) z ez f in
       et ∙ ap soundnessOf (sound-counts a ws h c d ∙ apart a ws h vs n o)
 
-  module _ (f : not z ≡ true) (m : Met) (em : m ≡ stepAt (a .base .0) (a .limit .0) (a .align .0) ws (c .low .0) (c .at .0)) where
+  module _ (f : not z ≡ true) (m : Met) (em : m ≡ rangeAt (a .base .0) (a .limit .0) (a .align .0) ws (c .low .0) (c .at .0)) where
     pub on-broken : OneOf (1 ∷ 2 ∷ []) (tagOf the-type m) → Soundness.Damaged ≡ soundnessOf (soundBeside a ws h vs n)
     on-broken g = ap soundnessOf (sym (broken a ws h vs n (along-broken a ws ready (h .head .0) c (s .along) z ez f m em g)))
 
@@ -122,11 +122,11 @@ pub ruleset judges = (on-start, on-done, on-broken, on-near, on-less, on-overlap
 pub survey-stays : (aim : Aim) (r : Bool) → r ≡ keepsFirst aim → not r ≡ false → keepsFirst aim ≡ true
 survey-stays aim r er f = said-true r (keepsFirst aim) er f
 
-module _ (a : Arena) (ws : List ℕ) (h : Chain) (vs : List ℕ) (n : ℕ) (aim : Aim) (q : Sought) (i : SoughtBeside a ws (h .head .0) vs n (kept-of aim) q) where
-  pub survey-broken : q ≡ Sought.Broken → Verdict.Damaged ≡ surveyBeside a ws h vs n aim
+module _ (a : Arena) (ws : List ℕ) (h : Chain) (vs : List ℕ) (n : ℕ) (aim : Aim) (q : SoughtBeside) (i : SeeksBeside a ws (h .head .0) vs n (kept-of aim) q) where
+  pub survey-broken : q ≡ SoughtBeside.Broken → Verdict.Damaged ≡ surveyBeside a ws h vs n aim
   survey-broken e = damaged a ws h vs n aim (overlapping a ws h vs n (rw e at i))
 
-  module _ (s : Spot) (c : Cursor) (j : ℕ) (e : q ≡ Sought.At s c j) where
+  module _ (s : Spot) (c : Cursor) (j : ℕ) (e : q ≡ SoughtBeside.At s c j) where
     come : Come a ws (h .head .0) (kept-of aim) s c × Abreast a ws (h .head .0) vs n c j
     come = rw e at i
 

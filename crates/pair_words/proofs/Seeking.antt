@@ -17,22 +17,22 @@ use Rattle.units.specs.declared.aims.Aim.{Aim}
 use Rattle.units.specs.declared.aims.Goal.{Goal}
 use Rattle.units.specs.declared.rules.Arena.{Arena}
 use Rattle.units.proofs.Fitting.{goalOf, goal-of-nothing, goal-of-reach, goal-of-from, goal-of-find}
-use Rattle.list_words.specs.Words.{stepAt}
+use Rattle.list_words.specs.Words.{rangeAt}
 use Rattle.list_words.specs.inner.Seeks.{sought}
 use Rattle.list_words.specs.inner.Surveys.{Ready, spot, startAt, onward, Near, Along, kept-of}
 use Rattle.list_words.specs.declared.Met.{Met}
 use Rattle.list_words.specs.declared.Spot.{Spot}
 use Rattle.list_words.specs.declared.cursor.Cursor.{Cursor}
-use Rattle.list_words.specs.declared.seeks.Sought as list
+use Rattle.list_words.specs.declared.seeks.SoughtBeside as list
 use Rattle.list_words.proofs.Met.{the-type}
 use Rattle.list_words.proofs.Going.{along-near, along-less}
 use Rattle.list_words.proofs.Seeking.{Seeking, seek-start, seek-broken, seek-order, seek-at, seek-next, seek-end}
 use Rattle.list_words.proofs.Staying.{first-kept}
 use Rattle.block_words.specs.inner.Tallies.{behind}
 use Rattle.block_words.specs.inner.Surveys.{Rising}
-use Rattle.pair_words.specs.inner.Besides.{besideOf, Abreast, SoughtBeside}
+use Rattle.pair_words.specs.inner.Besides.{besideOf, Abreast, SeeksBeside}
 use Rattle.pair_words.specs.declared.walks.Beside.{Beside}
-use Rattle.pair_words.specs.declared.walks.Sought.{Sought}
+use Rattle.pair_words.specs.declared.walks.SoughtBeside.{SoughtBeside}
 use Rattle.pair_words.proofs.Abreast.{abreast-start, abreast-overlaps, abreast-next}
 
 -- the list sought through, and the table abreast of it
@@ -58,14 +58,14 @@ module _ (a : Arena) (ws : List ℕ) (ready : Ready a (length ws)) (vs : List �
     abreast : Abreast a ws (h .0) vs n c i
     abreast = subst (λ (x : ℕ). Abreast a ws x vs n c i) at-head (k .abreast)
 
-    abbrev Found : Sought → Type 0
-    Found = SoughtBeside a ws (h .0) vs n (sought g none-range)
+    abbrev Found : SoughtBeside → Type 0
+    Found = SeeksBeside a ws (h .0) vs n (sought g none-range)
 
-    pub pursue-end : not z ≡ false → (v : Spot) → v ≡ spot p none-range (addr 0) → Found (Sought.At v c i)
+    pub pursue-end : not z ≡ false → (v : Spot) → v ≡ spot p none-range (addr 0) → Found (SoughtBeside.At v c i)
     pursue-end f v ev = (seek-end a ws ready g h s es p c (k .seeking) z ez f v ev, abreast)
 
-    module _ (f : not z ≡ true) (m : Met) (em : m ≡ stepAt (a .base .0) (a .limit .0) (a .align .0) ws (c .low .0) (c .at .0)) where
-      pub pursue-broken : OneOf (1 ∷ 2 ∷ []) (tagOf the-type m) → Found Sought.Broken
+    module _ (f : not z ≡ true) (m : Met) (em : m ≡ rangeAt (a .base .0) (a .limit .0) (a .align .0) ws (c .low .0) (c .at .0)) where
+      pub pursue-broken : OneOf (1 ∷ 2 ∷ []) (tagOf the-type m) → Found SoughtBeside.Broken
       pursue-broken o w = absurd (seek-broken a ws ready g h s es p c (k .seeking) z ez f m em o w)
 
       module _ (e x : Addr) (fm : m ≡ Met.Found e x) where
@@ -80,14 +80,14 @@ module _ (a : Arena) (ws : List ℕ) (ready : Ready a (length ws)) (vs : List �
           pursue-order = seek-order a ws ready g h s es p c (k .seeking) z ez f m em e x fm y ey
 
           module _ (b : Beside) (eb : b ≡ besideOf y i (behind vs n i)) where
-            pub pursue-overlaps : b ≡ Beside.Overlaps → Found Sought.Broken
+            pub pursue-overlaps : b ≡ Beside.Overlaps → Found SoughtBeside.Broken
             pursue-overlaps o = abreast-overlaps a ws ready vs n (h .0) c i along abreast z ez f m em e x fm y ey b eb o
 
             module _ (j : ℕ) (o : b ≡ Beside.At j) (c' : Cursor) (ec : c' ≡ onward c (e .0) x) (t : Bool) (et : t ≡ fits g y) where
               next-pairs : Abreast a ws (h .0) vs n c' j
               next-pairs = abreast-next a ws ready vs n (h .0) c i along abreast z ez f m em e x fm y ey b eb j o c' ec
 
-              pub pursue-at : t ≡ true → Found (Sought.At (spot p y x) c' j)
+              pub pursue-at : t ≡ true → Found (SoughtBeside.At (spot p y x) c' j)
               pursue-at ft = (seek-at a ws ready g h s es p c (k .seeking) z ez f m em e x fm c' ec y ey t et ft, next-pairs)
 
               pub pursue-next : t ≡ false → Pursuing a ws (s .at .0) vs n g y c' j
@@ -101,13 +101,13 @@ pub ruleset pursuits = (pursue-start, pursue-end, pursue-broken, pursue-near, pu
 
 -- the ways out of `first`
 module _ (a : Arena) (ws : List ℕ) (ready : Ready a (length ws)) (head : ℕ) (vs : List ℕ) (n : ℕ) (aim : Aim) (stay : keepsFirst aim ≡ true) where
-  by-goal : (g : Goal) → g ≡ goalOf aim → (q : Sought) → SoughtBeside a ws head vs n (sought g none-range) q → SoughtBeside a ws head vs n (kept-of aim) q
-  by-goal g eg Sought.Broken i = i
-  by-goal g eg (Sought.At s c j) i = (first-kept a ws ready head aim stay g eg (list.Sought.At s c) (i .0), i .1)
+  by-goal : (g : Goal) → g ≡ goalOf aim → (q : SoughtBeside) → SeeksBeside a ws head vs n (sought g none-range) q → SeeksBeside a ws head vs n (kept-of aim) q
+  by-goal g eg SoughtBeside.Broken i = i
+  by-goal g eg (SoughtBeside.At s c j) i = (first-kept a ws ready head aim stay g eg (list.SoughtBeside.At s c) (i .0), i .1)
 
-  module _ (x y : Addr) (z : Size) (q : Sought) (i : SoughtBeside a ws head vs n (sought (record { reach = x; from = y; size = z }) none-range) q) where
+  module _ (x y : Addr) (z : Size) (q : SoughtBeside) (i : SeeksBeside a ws head vs n (sought (record { reach = x; from = y; size = z }) none-range) q) where
     abbrev Kept : Type 0
-    Kept = SoughtBeside a ws head vs n (kept-of aim) q
+    Kept = SeeksBeside a ws head vs n (kept-of aim) q
 
     pub first-nothing : aim ≡ Aim.Nothing → x .0 ≡ 18446744073709551615 → y .0 ≡ 0 → z .0 ≡ 0 → Kept
     first-nothing e ex ey ez = by-goal (record { reach = x; from = y; size = z }) (goal-of-nothing x y z aim e ex ey ez) q i

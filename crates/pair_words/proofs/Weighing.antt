@@ -17,7 +17,7 @@ use Rattle.units.specs.declared.rules.Arena.{Arena}
 use Rattle.units.specs.declared.rules.Soundness.{Soundness}
 use Rattle.units.proofs.Cases.{sound-true, sound-false}
 use Rattle.model.specs.Marks as marks
-use Rattle.list_words.specs.Words.{stepAt, soundWalk}
+use Rattle.list_words.specs.Words.{rangeAt, soundWalk}
 use Rattle.list_words.specs.inner.Surveys.{Ready, walkOf, spot, startAt, onward, countsOf, at-end, keeping, Near}
 use Rattle.list_words.specs.declared.Chain.{Chain}
 use Rattle.list_words.specs.declared.Met.{Met}
@@ -65,7 +65,7 @@ module _ (a : Arena) (ws : List ℕ) (ready : Ready a (length ws)) (h : Chain) (
           (λ u. ev ∙ (sym (ap (λ (x : List marks.Range). keeping aim p k x) (d .none-left)) ∙ s .weighing .left u))
 
     -- a range comes
-    module _ (f : not z ≡ true) (m : Met) (em : m ≡ stepAt (a .base .0) (a .limit .0) (a .align .0) ws (c .low .0) (c .at .0)) where
+    module _ (f : not z ≡ true) (m : Met) (em : m ≡ rangeAt (a .base .0) (a .limit .0) (a .align .0) ws (c .low .0) (c .at .0)) where
       pub ponder-broken : OneOf (1 ∷ 2 ∷ []) (tagOf the-type m) → Answer Verdict.Damaged
       ponder-broken g = damaged a ws h vs n aim (broken a ws h vs n (along-broken a ws ready (h .head .0) c (s .weighing .along) z ez f m em g))
 

@@ -22,7 +22,7 @@ ghost use Rattle.list_words.specs.inner.Surveys.{Ready, Along, kept-of};
 ghost use Rattle.block_words.specs.Words.{capacity};
 ghost use Rattle.block_words.specs.inner.Tallies.{behind};
 ghost use Rattle.block_words.specs.inner.Surveys.{Rising};
-ghost use Rattle.pair_words.specs.inner.Besides.{besideOf, Abreast, SoughtBeside, soundBeside, surveyBeside};
+ghost use Rattle.pair_words.specs.inner.Besides.{besideOf, Abreast, SeeksBeside, soundBeside, surveyBeside};
 
 // Where a range stands beside a table: it overlaps a pair; or before the first pair that ends above its base, or behind all.
 pub enum Beside {
@@ -52,44 +52,51 @@ fn place_beside(nodes: &[u64], n: usize, from: usize, here: Range) -> Beside
 
 // A fault, or lands that overlap; or the first range that fits (none, behind the last range, where there is none), the cursor
 // behind it, and the number of the pair that stands there.
-pub enum Sought {
+pub enum SoughtBeside {
     Broken,
     At(Spot, Cursor, usize),
 }
 
 // The walk from head up to the first range that fits.
-fn seek(arena: Arena, words: &[u64], head: Addr, nodes: &[u64], n: usize, goal: Goal) -> Sought
+fn seek(
+    arena: Arena,
+    words: &[u64],
+    head: Addr,
+    nodes: &[u64],
+    n: usize,
+    goal: Goal,
+) -> SoughtBeside
     requires { ⌜ Ready arena (length (now words)) ⌝ }
     requires { ⌜ Rising (now nodes) n ⌝ }
-    ensures { λ r. ⌜ SoughtBeside arena (now (words .entry)) (head .0) (now (nodes .entry)) n (sought goal none-range) r ⌝ }
+    ensures { λ r. ⌜ SeeksBeside arena (now (words .entry)) (head .0) (now (nodes .entry)) n (sought goal none-range) r ⌝ }
 {
     let mut prev = Range::none();
     let mut cur = Cursor::start(arena, head);
     let mut i: usize = 0;
     while !cur.at.is_zero() {
-        let Met::Found(end, next) = list_words::step(arena, words, cur.low, cur.at) else {
-            return Sought::Broken;
+        let Met::Found(end, next) = list_words::range_at(arena, words, cur.low, cur.at) else {
+            return SoughtBeside::Broken;
         };
         let here = Range::new(cur.at, end);
         let Beside::At(j) = place_beside(nodes, n, i, here) else {
-            return Sought::Broken;
+            return SoughtBeside::Broken;
         };
         i = j;
         cur = cur.on(end, next);
         if goal.fits(here) {
-            return Sought::At(Spot { prev, here, next }, cur, i);
+            return SoughtBeside::At(Spot { prev, here, next }, cur, i);
         }
         prev = here;
     }
-    Sought::At(Spot::behind(prev), cur, i)
+    SoughtBeside::At(Spot::behind(prev), cur, i)
 }
 
 // The walk of an aim that keeps the first range that it takes, up to that range. No limit reaches 2^64 - 1.
-fn first(arena: Arena, words: &[u64], head: Addr, nodes: &[u64], n: usize, aim: Aim) -> Sought
+fn first(arena: Arena, words: &[u64], head: Addr, nodes: &[u64], n: usize, aim: Aim) -> SoughtBeside
     requires { ⌜ Ready arena (length (now words)) ⌝ }
     requires { ⌜ Rising (now nodes) n ⌝ }
     requires { ⌜ keepsFirst aim ≡ true ⌝ }
-    ensures { λ r. ⌜ SoughtBeside arena (now (words .entry)) (head .0) (now (nodes .entry)) n (kept-of aim) r ⌝ }
+    ensures { λ r. ⌜ SeeksBeside arena (now (words .entry)) (head .0) (now (nodes .entry)) n (kept-of aim) r ⌝ }
 {
     let reach = Addr::new(0);
     let from = Addr::new(0);
@@ -123,7 +130,7 @@ fn sound_on(
     let mut cur = cursor;
     let mut i = from;
     while !cur.at.is_zero() {
-        let Met::Found(end, next) = list_words::step(arena, words, cur.low, cur.at) else {
+        let Met::Found(end, next) = list_words::range_at(arena, words, cur.low, cur.at) else {
             return Soundness::Damaged;
         };
         let Beside::At(j) = place_beside(nodes, n, i, Range::new(cur.at, end)) else {
@@ -146,7 +153,7 @@ fn weigh(arena: Arena, words: &[u64], chain: Chain, nodes: &[u64], n: usize, aim
     let mut cur = Cursor::start(arena, chain.head);
     let mut i: usize = 0;
     while !cur.at.is_zero() {
-        let Met::Found(end, next) = list_words::step(arena, words, cur.low, cur.at) else {
+        let Met::Found(end, next) = list_words::range_at(arena, words, cur.low, cur.at) else {
             return Verdict::Damaged;
         };
         let here = Range::new(cur.at, end);
@@ -183,7 +190,7 @@ pub fn survey(
     if !aim.stays() {
         return weigh(arena, words, chain, nodes, n, aim);
     }
-    let Sought::At(s, c, i) = first(arena, words, chain.head, nodes, n, aim) else {
+    let SoughtBeside::At(s, c, i) = first(arena, words, chain.head, nodes, n, aim) else {
         return Verdict::Damaged;
     };
     let spot = s;

@@ -2,13 +2,13 @@
 use mathlib.Core.Path.{refl}
 use Rattle.units.specs.Rules.{goodAlign, arenaCheck, rangeCheck, largestCheck, sizeCheck}
 use Rattle.units.specs.Words.{mayBegin, mayEnd}
-use Rattle.list_words.specs.Words.{stepAt, walkFor, walkFrom, soundWalk}
+use Rattle.list_words.specs.Words.{rangeAt, walkFor, walkFrom, soundWalk}
 use Rattle.list_land.specs.Layout as land
 use Rattle.list_land.specs.Calls as calls
 use Rattle.texts.specs.Decimal.{decimal, line}
 use Rattle.script.specs.Sample.{Sample}
 
 pub sample-holds : Sample
-unfolding goodAlign arenaCheck rangeCheck largestCheck sizeCheck mayBegin mayEnd stepAt walkFor walkFrom soundWalk
+unfolding goodAlign arenaCheck rangeCheck largestCheck sizeCheck mayBegin mayEnd rangeAt walkFor walkFrom soundWalk
     land.setUp land.sound land.readOf calls.does calls.openedOf decimal line
 sample-holds = refl

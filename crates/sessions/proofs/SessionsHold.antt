@@ -2,7 +2,7 @@
 use mathlib.Core.Path.{refl}
 use Rattle.units.specs.Rules.{goodAlign, arenaCheck, rangeCheck, largestCheck, sizeCheck}
 use Rattle.units.specs.Words.{mayBegin, mayEnd}
-use Rattle.list_words.specs.Words.{stepAt, walkFor, walkFrom, soundWalk}
+use Rattle.list_words.specs.Words.{rangeAt, walkFor, walkFrom, soundWalk}
 use Rattle.list_land.specs.Layout as list-layout
 use Rattle.list_land.specs.Calls as list
 use Rattle.block_words.specs.Words.{soundTable}
@@ -11,7 +11,7 @@ use Rattle.block_land.specs.Calls as block
 use Rattle.sessions.specs.Sessions.{twelve, AllHold}
 
 pub twelve-hold : AllHold twelve
-unfolding goodAlign arenaCheck rangeCheck largestCheck sizeCheck mayBegin mayEnd stepAt walkFor walkFrom soundWalk soundTable
+unfolding goodAlign arenaCheck rangeCheck largestCheck sizeCheck mayBegin mayEnd rangeAt walkFor walkFrom soundWalk soundTable
     list-layout.setUp list-layout.sound list-layout.readOf list.inserted list.deleted list.found list.openedOf
     block-layout.setUp block-layout.sound block-layout.readOf block.inserted block.deleted block.openedOf block.openedWords
 twelve-hold = (

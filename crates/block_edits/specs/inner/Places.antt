@@ -12,7 +12,7 @@ use Rattle.block_words.specs.Words.{capacity, pairs, fill}
 use Rattle.block_shifts.specs.inner.Shifts.{spliced}
 use Rattle.block_edits.specs.inner.Edits.{Sorted}
 use Rattle.block_edits.specs.declared.cut.Left.{Left}
-use Rattle.block_edits.specs.declared.Joined.{Joined}
+use Rattle.block_edits.specs.declared.TableJoined.{TableJoined}
 use Rattle.block_edits.specs.declared.join.Fit.{Fit}
 
 abbrev pub fit : ℕ → ℕ → ℕ → Bool → Fit
@@ -40,8 +40,8 @@ pub record Joining (n i k : ℕ) : Type 0 where
   pub inside : i + k ≤ n
 
 -- What comes of a range as it fits at pair i of n: there is no room, or the range and the number of ranges.
-abbrev pub fitted : List ℕ → ℕ → Fit → Joined
-fitted ws n f = cond (leb (n + 1 - f .joins) (capacity ws)) (Joined.Done (f .joined) (n + 1 - f .joins)) Joined.Full
+abbrev pub fitted : List ℕ → ℕ → Fit → TableJoined
+fitted ws n f = cond (leb (n + 1 - f .joins) (capacity ws)) (TableJoined.Done (f .joined) (n + 1 - f .joins)) TableJoined.Full
 
 abbrev pub fittedWords : List ℕ → ℕ → ℕ → Fit → List ℕ
 fittedWords ws n i f =

@@ -12,7 +12,7 @@ use Rattle.units.specs.declared.rules.Arena.{Arena}
 use Rattle.model.specs.Marks as marks
 use Rattle.model.specs.Marks.{struct}
 use Rattle.model.specs.inner.Lists.{Apart}
-use Rattle.block_words.specs.Words.{capacity, pairs, clear, soundTable}
+use Rattle.block_words.specs.Words.{capacity, pairs, all-zero, soundTable}
 use Rattle.block_words.specs.inner.Tallies.{pairAt}
 use Rattle.block_words.specs.declared.Entry.{Entry}
 use Rattle.block_words.specs.declared.Verdict.{Verdict}
@@ -48,14 +48,14 @@ pub record Rising (ws : List ℕ) (n : ℕ) : Type 0 where
   pub apart : Apart low high (pairs ws n)
 
 -- Pair i is the first of n whose limit reaches x, or i is n.
-pub record Spot (ws : List ℕ) (n x i : ℕ) : Type 0 where
+pub record FirstReach (ws : List ℕ) (n x i : ℕ) : Type 0 where
   pub upto : i ≤ n
   pub below : (j : ℕ) → j < i → getD ws (2 * j + 1) 0 < x
   pub reach : i < n → x ≤ getD ws (2 * i + 1) 0
 
 -- There is room for n ranges, and every pair word behind them is 0.
 abbrev pub tidy : List ℕ → ℕ → Bool
-tidy ws n = leb n (capacity ws) && clear (drop (2 * n) ws)
+tidy ws n = leb n (capacity ws) && all-zero (drop (2 * n) ws)
 
 -- Document 01's number of what is found of the whole table: 6, or 0.
 abbrev pub verdictNumber : Verdict → ℕ

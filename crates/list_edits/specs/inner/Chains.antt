@@ -16,8 +16,8 @@ use Rattle.list_words.specs.declared.Spot.{Spot}
 use Rattle.list_words.specs.Words.{soundWalk}
 use Rattle.list_words.specs.Laying.{head-of, lay}
 use Rattle.list_words.specs.inner.Surveys.{Ready, walkOf, kept-of}
-use Rattle.list_edits.specs.declared.Edited.{Edited}
-use Rattle.list_edits.specs.declared.Joined.{Joined}
+use Rattle.list_edits.specs.declared.ChainEdited.{ChainEdited}
+use Rattle.list_edits.specs.declared.ChainJoined.{ChainJoined}
 
 -- The ranges that the walk from the head meets.
 abbrev pub metOf : Arena → List ℕ → Chain → List Range
@@ -48,13 +48,13 @@ abbrev pub chainOf : List Range → Chain
 chainOf rs = record { head = addr (head-of rs); ranges = length rs; bytes = record { 0 = total rs } }
 
 -- Document 01's number of each case: 1 where some byte is already free, or is not free.
-abbrev pub editedNumber : Edited → ℕ
-editedNumber Edited.Refused = 1
-editedNumber (Edited.Done c r) = 0
+abbrev pub editedNumber : ChainEdited → ℕ
+editedNumber ChainEdited.Refused = 1
+editedNumber (ChainEdited.Done c r) = 0
 
 -- What an edit gives, and the words: refused, or the chain of the new list and the range that holds the request.
-abbrev pub edited : Bool → List Range → Range → Edited
-edited bad new r = cond bad Edited.Refused (Edited.Done (chainOf new) (struct r))
+abbrev pub edited : Bool → List Range → Range → ChainEdited
+edited bad new r = cond bad ChainEdited.Refused (ChainEdited.Done (chainOf new) (struct r))
 
 abbrev pub editedWords : Bool → List Range → ℕ → List ℕ → List ℕ
 editedWords bad new base ws = cond bad ws (lay base new ws)
@@ -64,14 +64,14 @@ module _ (rs : List Range) (y : units.Range) where
   abbrev pub joined : List Range
   joined = insert-in (y .base .0) (y .limit .0) rs
 
-  abbrev pub joinedOf : Joined
+  abbrev pub joinedOf : ChainJoined
   joinedOf = record { chain = chainOf joined; range = struct (holder (y .base .0) (y .limit .0) joined) }
 
   abbrev pub joinedWords : ℕ → List ℕ → List ℕ
   joinedWords base ws = lay base joined ws
 
   -- Refused if it overlaps one.
-  unfoldable pub putOf : Edited
+  unfoldable pub putOf : ChainEdited
   putOf = edited (overlaps (y .base .0) (y .limit .0) rs) joined (holder (y .base .0) (y .limit .0) joined)
 
   unfoldable pub putWords : ℕ → List ℕ → List ℕ
@@ -88,7 +88,7 @@ module _ (rs : List Range) (y : units.Range) where
   cutWords base ws = lay base remaining ws
 
   -- A range taken out: refused if none holds it; it was in the range that did.
-  unfoldable pub cutOf : Edited
+  unfoldable pub cutOf : ChainEdited
   cutOf = edited (not (holds (y .base .0) (y .limit .0) rs)) remaining (holder (y .base .0) (y .limit .0) rs)
 
   unfoldable pub cutOutWords : ℕ → List ℕ → List ℕ

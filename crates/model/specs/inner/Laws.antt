@@ -9,7 +9,7 @@ use Rattle.model.specs.Lands.{told, LandLayout}
 use Rattle.model.specs.Layouts.{holding, Answers, Rules, Layout}
 use Rattle.model.specs.inner.Lists.{Apart, Aligned}
 use Rattle.model.specs.Marks.{Range}
-use Rattle.model.specs.inner.Steps.{fits}
+use Rattle.model.specs.inner.Steps.{room-for}
 
 -- What a layout must keep, where Fine says which sets it can stand for.
 pub record Laws {A H W S X : Type 0} (Fine : A → S → Type 0) (told : A → S → X) (R : Layout A H W S X) : Type 0 where
@@ -45,7 +45,7 @@ pub record Canon (a : Arena) (rs : List Range) : Type 0 where
 pub record Fine (a : Arena) (rs : List Range) : Type 0 where
   pub order : a .base ≤ a .limit
   pub canon : Canon a rs
-  pub room : fits (a .room) (length rs) ≡ true
+  pub room : room-for (a .room) (length rs) ≡ true
 
 -- The laws of the layout of a land.
 abbrev pub LandLaws : {H : Type 0} → LandLayout H → Type 0

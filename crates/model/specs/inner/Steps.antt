@@ -92,9 +92,9 @@ part Which.Last mode n r = end-part mode n r
 part Which.Largest mode n r = r
 
 -- There is room for n ranges.
-abbrev pub fits : Option ℕ → ℕ → Bool
-fits none n = true
-fits (some capacity) n = leb n capacity
+abbrev pub room-for : Option ℕ → ℕ → Bool
+room-for none n = true
+room-for (some capacity) n = leb n capacity
 
 module _ {S : Type 0} (o : Ops S) (a : Arena) where
   abbrev pub refuse : ℕ → S → Step S
@@ -103,7 +103,7 @@ module _ {S : Type 0} (o : Ops S) (a : Arena) where
   -- Accepted, unless there is no room for the ranges of the next set.
   abbrev pub settle : S → S → Range → Range → Step S
   settle s s' f r =
-      cond (fits (a .room) (length (o .ranges s'))) (record { out = accepted f r; next = s' }) (refuse 3 s)
+      cond (room-for (a .room) (length (o .ranges s'))) (record { out = accepted f r; next = s' }) (refuse 3 s)
 
   abbrev pub do-insert : S → ℕ → ℕ → Step S
   do-insert s b l =

@@ -117,6 +117,6 @@ module _ (p : Pair) (ws vs : List ℕ) (y : units.Range) (s : Spot) where
     pub none : takenIn p ws vs y ≡ false
 
 -- The checks of a flush are good, and an entry of the table is the first range that reaches the base of a request.
-pub record Placed (p : Pair) (ws vs : List ℕ) (y : units.Range) (e : Entry) : Type 0 where
+pub record Preparable (p : Pair) (ws vs : List ℕ) (y : units.Range) (e : Entry) : Type 0 where
   pub good : checkOf (p .list) ws (p .block) vs ≡ FlushCheck.Good
-  pub place : places.Spot vs (p .block .ranges) (y .base .0) (e .number)
+  pub place : places.FirstReach vs (p .block .ranges) (y .base .0) (e .number)

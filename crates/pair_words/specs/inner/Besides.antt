@@ -20,7 +20,7 @@ use Rattle.block_words.specs.Words.{capacity, pairs}
 use Rattle.block_words.specs.inner.Tallies.{behind}
 use Rattle.pair_model.specs.PairLayouts.{meet}
 use Rattle.pair_words.specs.declared.walks.Beside.{Beside}
-use Rattle.pair_words.specs.declared.walks.Sought.{Sought}
+use Rattle.pair_words.specs.declared.walks.SoughtBeside.{SoughtBeside}
 
 -- Where a range stands beside the pairs from number i on.
 abbrev pub besideOf : units.Range → ℕ → List Range → Beside
@@ -45,9 +45,9 @@ pub record Abreast (a : Arena) (ws : List ℕ) (head : ℕ) (vs : List ℕ) (n :
   pub same : walkOf a ws head .end ≡ clean → meet (walkIn a ws (c .low .0) (c .at .0) .met) (behind vs n i) ≡ meet (walkOf a ws head .met) (pairs vs n)
 
 -- What a walk sought beside a table: a fault, or lands that overlap; or the spot that f says of the whole list, and what stands behind it.
-abbrev pub SoughtBeside : Arena → List ℕ → ℕ → List ℕ → ℕ → (List Range → Spot) → Sought → Type 0
-SoughtBeside a ws head vs n f Sought.Broken = walkOf a ws head .end ≡ clean → meet (walkOf a ws head .met) (pairs vs n) ≡ true
-SoughtBeside a ws head vs n f (Sought.At s c i) = Come a ws head f s c × Abreast a ws head vs n c i
+abbrev pub SeeksBeside : Arena → List ℕ → ℕ → List ℕ → ℕ → (List Range → Spot) → SoughtBeside → Type 0
+SeeksBeside a ws head vs n f SoughtBeside.Broken = walkOf a ws head .end ≡ clean → meet (walkOf a ws head .met) (pairs vs n) ≡ true
+SeeksBeside a ws head vs n f (SoughtBeside.At s c i) = Come a ws head f s c × Abreast a ws head vs n c i
 
 -- The list is sound, and no byte of it is in the table.
 abbrev pub soundBeside : Arena → List ℕ → Chain → List ℕ → ℕ → Bool

@@ -14,7 +14,7 @@ use Rattle.model.specs.Flushing as sets
 use Rattle.list_words.specs.Words.{isClean}
 use Rattle.list_words.specs.Laying.{head-of}
 use Rattle.list_words.specs.inner.Surveys.{Ready, walkOf}
-use Rattle.block_words.specs.Words.{capacity, pairs, clear, canonical, fill}
+use Rattle.block_words.specs.Words.{capacity, pairs, all-zero, canonical, fill}
 use Rattle.transfers.specs.declared.Moved.{Moved}
 
 -- A sound list and a sound table of one arena.
@@ -22,7 +22,7 @@ pub record Going (a : units.Arena) (ws : List ℕ) (head : ℕ) (vs : List ℕ) 
   pub ready : Ready a (length ws)
   pub clean : isClean (walkOf a ws head .end) ≡ true
   pub fits : n ≤ capacity vs
-  pub zeros : clear (drop (2 * n) vs) ≡ true
+  pub zeros : all-zero (drop (2 * n) vs) ≡ true
   pub ranges : canonical (a .base .0) (a .limit .0) (a .align .0) (pairs vs n) ≡ true
 
 -- The arena of the table.

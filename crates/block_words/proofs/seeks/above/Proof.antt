@@ -4,8 +4,8 @@ use borrow.Author.Needs.{needs}
 use Rattle.block_words.proofs.seeks.above.Statement.{statement}
 use Rattle.block_words.proofs.seeks.above.Tie as tie
 
-spot-requires : tie.Need-spot-requires
-spot-requires c κs = search needs
+first-reach-requires : tie.Need-first-reach-requires
+first-reach-requires c κs = search needs
 
 entry-at-requires : tie.Need-entry-at-requires
 entry-at-requires c κs = search needs
@@ -29,7 +29,7 @@ pub above-spec : {M : Type 1} → statement M
 above-spec =
     tie.close
     (tie.spec
-    spot-requires
+    first-reach-requires
     entry-at-requires
     lt-requires
     add-entry-at

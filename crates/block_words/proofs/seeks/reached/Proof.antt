@@ -4,8 +4,8 @@ use borrow.Author.Needs.{needs}
 use Rattle.block_words.proofs.seeks.reached.Statement.{statement}
 use Rattle.block_words.proofs.seeks.reached.Tie as tie
 
-spot-requires : tie.Need-spot-requires
-spot-requires c κs = search needs
+first-reach-requires : tie.Need-first-reach-requires
+first-reach-requires c κs = search needs
 
 entry-at-requires : tie.Need-entry-at-requires
 entry-at-requires c κs = search needs
@@ -14,4 +14,4 @@ returns : tie.Need-returns
 returns c = search places
 
 pub reached-spec : {M : Type 1} → statement M
-reached-spec = tie.close (tie.spec spot-requires entry-at-requires returns)
+reached-spec = tie.close (tie.spec first-reach-requires entry-at-requires returns)

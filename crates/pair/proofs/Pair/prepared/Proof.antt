@@ -20,8 +20,8 @@ returns c =
     let start = flushed .before .before .before .before in
     (flushed .flushed .ensures, prepare-same (start .args .self) _ _ (start .args .range) (start .args .entry) (start .pre) _ _ (flushed .flushed .ensures) _ (same .same .ensures) (c .if1 .taken))
 
-spot-requires : tie.Need-spot-requires
-spot-requires c κs =
+first-reach-requires : tie.Need-first-reach-requires
+first-reach-requires c κs =
     let flushed = c .before .before .before .before .before in
     let start = flushed .before .before .before .before in
     prepare-ordered (start .args .self) _ _ (start .args .range) (start .args .entry) (start .pre) _ _ (flushed .flushed .ensures)
@@ -40,6 +40,6 @@ prepared-spec =
     same-requires
     same-length
     returns
-    spot-requires
+    first-reach-requires
     same-length-2
     returns-2)

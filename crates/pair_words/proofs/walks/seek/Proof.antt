@@ -23,8 +23,8 @@ loop-holds c = search pursuits
 is-zero-requires : tie.Need-is-zero-requires Inv-loop μ-loop
 is-zero-requires c κs = search needs
 
-step-requires : tie.Need-step-requires Inv-loop μ-loop
-step-requires c κs = search needs
+range-at-requires : tie.Need-range-at-requires Inv-loop μ-loop
+range-at-requires c κs = search needs
 
 enum-known-end : tie.Need-enum-known-end Inv-loop μ-loop
 enum-known-end c = search needs
@@ -56,7 +56,7 @@ returns-2 c =
     let start = loop .before in
     let entry = start .before .before .before .before in
     pursue-overlaps _ _ (entry .pre .0) _ _ _ _ _ (start .start .ensures) _ _ _ (loop .loop .inv)
-    _ (zero .is-zero .ensures) (then .if1 .taken) _ (step .step .ensures) _ _ (end .end .given .1)
+    _ (zero .is-zero .ensures) (then .if1 .taken) _ (step .range-at .ensures) _ _ (end .end .given .1)
     _ (new .new .ensures) _ (placed .place-beside .ensures) (c .enum-told .given .1)
 
 on-requires : tie.Need-on-requires Inv-loop μ-loop
@@ -71,7 +71,7 @@ on-requires c κs =
     let start = loop .before in
     let entry = start .before .before .before .before in
     pursue-near _ _ (entry .pre .0) _ _ _ _ _ (start .start .ensures) _ _ _ (loop .loop .inv)
-    _ (zero .is-zero .ensures) (then .if1 .taken) _ (step .step .ensures) _ _ (end .end .given .1)
+    _ (zero .is-zero .ensures) (then .if1 .taken) _ (step .range-at .ensures) _ _ (end .end .given .1)
 
 fits-requires : tie.Need-fits-requires Inv-loop μ-loop
 fits-requires c κs =
@@ -85,7 +85,7 @@ fits-requires c κs =
     let start = loop .before in
     let entry = start .before .before .before .before in
     pursue-order _ _ (entry .pre .0) _ _ _ _ _ (start .start .ensures) _ _ _ (loop .loop .inv)
-    _ (zero .is-zero .ensures) (then .if1 .taken) _ (step .step .ensures) _ _ (end .end .given .1) _ (new .new .ensures)
+    _ (zero .is-zero .ensures) (then .if1 .taken) _ (step .range-at .ensures) _ _ (end .end .given .1) _ (new .new .ensures)
 
 returns-3 : tie.Need-returns-3 Inv-loop μ-loop
 returns-3 c =
@@ -102,7 +102,7 @@ returns-3 c =
     let start = loop .before in
     let entry = start .before .before .before .before in
     pursue-at _ _ (entry .pre .0) _ _ _ _ _ (start .start .ensures) _ _ _ (loop .loop .inv)
-    _ (zero .is-zero .ensures) (then .if1 .taken) _ (step .step .ensures) _ _ (end .end .given .1)
+    _ (zero .is-zero .ensures) (then .if1 .taken) _ (step .range-at .ensures) _ _ (end .end .given .1)
     _ (new .new .ensures) _ (placed .place-beside .ensures) _ (pair .j .given .1) _ (on .on .ensures) _ (fits .fits2 .ensures) (c .if2 .taken)
 
 loop-less : tie.Need-loop-less Inv-loop μ-loop
@@ -118,7 +118,7 @@ loop-less c =
     let start = loop .before in
     let entry = start .before .before .before .before in
     pursue-less _ _ (entry .pre .0) _ _ _ _ _ (start .start .ensures) _ _ _ (loop .loop .inv)
-    _ (zero .is-zero .ensures) (then .if1 .taken) _ (step .step .ensures) _ _ (end .end .given .1) _ (on .on .ensures)
+    _ (zero .is-zero .ensures) (then .if1 .taken) _ (step .range-at .ensures) _ _ (end .end .given .1) _ (on .on .ensures)
 
 loop-again : tie.Need-loop-again Inv-loop μ-loop
 loop-again c =
@@ -135,7 +135,7 @@ loop-again c =
     let start = loop .before in
     let entry = start .before .before .before .before in
     pursue-next _ _ (entry .pre .0) _ _ _ _ _ (start .start .ensures) _ _ _ (loop .loop .inv)
-    _ (zero .is-zero .ensures) (then .if1 .taken) _ (step .step .ensures) _ _ (end .end .given .1)
+    _ (zero .is-zero .ensures) (then .if1 .taken) _ (step .range-at .ensures) _ _ (end .end .given .1)
     _ (new .new .ensures) _ (placed .place-beside .ensures) _ (pair .j .given .1) _ (on .on .ensures) _ (fits .fits2 .ensures) (c .if2 .left)
 
 behind-requires : tie.Need-behind-requires Inv-loop μ-loop
@@ -154,7 +154,7 @@ seek-spec =
     start-requires
     loop-holds
     is-zero-requires
-    step-requires
+    range-at-requires
     enum-known-end
     returns
     new-requires

@@ -17,8 +17,8 @@ loop-holds c = search judges
 is-zero-requires : tie.Need-is-zero-requires Inv-loop μ-loop
 is-zero-requires c κs = search needs
 
-step-requires : tie.Need-step-requires Inv-loop μ-loop
-step-requires c κs = search needs
+range-at-requires : tie.Need-range-at-requires Inv-loop μ-loop
+range-at-requires c κs = search needs
 
 enum-known-end : tie.Need-enum-known-end Inv-loop μ-loop
 enum-known-end c = search needs
@@ -55,7 +55,7 @@ loop-less c =
     let loop = zero .before in
     let entry = loop .before .before .before in
     on-less _ _ (entry .pre .0) (entry .args .chain) _ _ _ _ (loop .loop .inv)
-    _ (zero .is-zero .ensures) (then .if1 .taken) _ (step .step .ensures) _ _ (end .end .given .1) _ (c .on .ensures)
+    _ (zero .is-zero .ensures) (then .if1 .taken) _ (step .range-at .ensures) _ _ (end .end .given .1) _ (c .on .ensures)
 
 loop-again : tie.Need-loop-again Inv-loop μ-loop
 loop-again c =
@@ -69,7 +69,7 @@ loop-again c =
     let loop = zero .before in
     let entry = loop .before .before .before in
     on-next _ _ (entry .pre .0) (entry .args .chain) _ _ _ _ (loop .loop .inv)
-    _ (zero .is-zero .ensures) (then .if1 .taken) _ (step .step .ensures) _ _ (end .end .given .1)
+    _ (zero .is-zero .ensures) (then .if1 .taken) _ (step .range-at .ensures) _ _ (end .end .given .1)
     _ (new .new .ensures) _ (placed .place-beside .ensures) _ (pair .j .given .1) _ (c .on .ensures)
 
 counts-requires : tie.Need-counts-requires Inv-loop μ-loop
@@ -86,7 +86,7 @@ sound-on-spec =
     μ-loop
     loop-holds
     is-zero-requires
-    step-requires
+    range-at-requires
     enum-known-end
     returns
     new-requires

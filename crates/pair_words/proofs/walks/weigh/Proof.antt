@@ -27,8 +27,8 @@ loop-holds c = search ponders
 is-zero-requires : tie.Need-is-zero-requires Inv-loop μ-loop
 is-zero-requires c κs = search needs
 
-step-requires : tie.Need-step-requires Inv-loop μ-loop
-step-requires c κs = search needs
+range-at-requires : tie.Need-range-at-requires Inv-loop μ-loop
+range-at-requires c κs = search needs
 
 enum-known-end : tie.Need-enum-known-end Inv-loop μ-loop
 enum-known-end c = search needs
@@ -59,7 +59,7 @@ returns-2 c =
     let loop = zero .before in
     let entry = loop .before .before .before .before .before .before in
     ponder-overlaps _ _ (entry .pre .0) (entry .args .chain) _ _ _ _ _ _ _ (loop .loop .inv)
-    _ (zero .is-zero .ensures) (then .if1 .taken) _ (step .step .ensures) _ _ (end .end .given .1)
+    _ (zero .is-zero .ensures) (then .if1 .taken) _ (step .range-at .ensures) _ _ (end .end .given .1)
     _ (new .new .ensures) _ (placed .place-beside .ensures) (c .enum-told .given .1)
 
 takes-requires : tie.Need-takes-requires Inv-loop μ-loop
@@ -73,7 +73,7 @@ takes-requires c κs =
     let loop = zero .before in
     let entry = loop .before .before .before .before .before .before in
     ponder-sized _ _ (entry .pre .0) (entry .args .chain) _ _ _ _ _ _ _ (loop .loop .inv)
-    _ (zero .is-zero .ensures) (then .if1 .taken) _ (step .step .ensures) _ _ (end .end .given .1) _ (new .new .ensures)
+    _ (zero .is-zero .ensures) (then .if1 .taken) _ (step .range-at .ensures) _ _ (end .end .given .1) _ (new .new .ensures)
 
 on-requires : tie.Need-on-requires Inv-loop μ-loop
 on-requires c κs =
@@ -87,7 +87,7 @@ on-requires c κs =
     let loop = zero .before in
     let entry = loop .before .before .before .before .before .before in
     ponder-near _ _ (entry .pre .0) (entry .args .chain) _ _ _ _ _ _ _ (loop .loop .inv)
-    _ (zero .is-zero .ensures) (then .if1 .taken) _ (step .step .ensures) _ _ (end .end .given .1)
+    _ (zero .is-zero .ensures) (then .if1 .taken) _ (step .range-at .ensures) _ _ (end .end .given .1)
 
 loop-less : tie.Need-loop-less Inv-loop μ-loop
 loop-less c =
@@ -101,7 +101,7 @@ loop-less c =
     let loop = zero .before in
     let entry = loop .before .before .before .before .before .before in
     ponder-less _ _ (entry .pre .0) (entry .args .chain) _ _ _ _ _ _ _ (loop .loop .inv)
-    _ (zero .is-zero .ensures) (then .if1 .taken) _ (step .step .ensures) _ _ (end .end .given .1) _ (c .on .ensures)
+    _ (zero .is-zero .ensures) (then .if1 .taken) _ (step .range-at .ensures) _ _ (end .end .given .1) _ (c .on .ensures)
 
 loop-again : tie.Need-loop-again Inv-loop μ-loop
 loop-again c =
@@ -117,10 +117,10 @@ loop-again c =
     let loop = zero .before in
     let entry = loop .before .before .before .before .before .before in
     ⊎-elim (λ w. ponder-taken _ _ (entry .pre .0) (entry .args .chain) _ _ _ _ _ _ _ (loop .loop .inv)
-    _ (zero .is-zero .ensures) (then .if1 .taken) _ (step .step .ensures) _ _ (end .end .given .1)
+    _ (zero .is-zero .ensures) (then .if1 .taken) _ (step .range-at .ensures) _ _ (end .end .given .1)
     _ (new .new .ensures) _ (placed .place-beside .ensures) _ (pair .j .given .1) _ (takes .takes .ensures) _ (c .on .ensures) (w .0 .taken) _ (w .1))
     (λ w. ponder-left _ _ (entry .pre .0) (entry .args .chain) _ _ _ _ _ _ _ (loop .loop .inv)
-    _ (zero .is-zero .ensures) (then .if1 .taken) _ (step .step .ensures) _ _ (end .end .given .1)
+    _ (zero .is-zero .ensures) (then .if1 .taken) _ (step .range-at .ensures) _ _ (end .end .given .1)
     _ (new .new .ensures) _ (placed .place-beside .ensures) _ (pair .j .given .1) _ (takes .takes .ensures) _ (c .on .ensures) (w .0 .left) _ (w .1))
     (joined .if2 .came)
 
@@ -161,7 +161,7 @@ weigh-spec =
     start-requires
     loop-holds
     is-zero-requires
-    step-requires
+    range-at-requires
     enum-known-end
     returns
     new-requires

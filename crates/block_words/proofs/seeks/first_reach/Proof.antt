@@ -1,10 +1,10 @@
--- `spot` meets its contract: the place is from lo up to hi. Assumes nothing.
+-- `first_reach` meets its contract: the place is from lo up to hi. Assumes nothing.
 use Prim.Native.Nat.{_-_}
 use native.Mathlib.Omega.{arith}
 use Rattle.block_words.proofs.Halving.{Halving, halve-start, halve-up, halve-down, halve-done}
 use borrow.Author.Needs.{needs}
-use Rattle.block_words.proofs.seeks.spot.Statement.{statement}
-use Rattle.block_words.proofs.seeks.spot.Tie as tie
+use Rattle.block_words.proofs.seeks.first_reach.Statement.{statement}
+use Rattle.block_words.proofs.seeks.first_reach.Tie as tie
 
 abbrev Inv-loop : tie.InvT-loop
 Inv-loop words n x lo₀ hi₀ lo hi = Halving words n (x .0) lo hi
@@ -42,8 +42,8 @@ loop-again-2 c = search halve-down
 returns : tie.Need-returns Inv-loop μ-loop
 returns c = search halve-done
 
-pub spot-spec : {M : Type 1} → statement M
-spot-spec =
+pub first-reach-spec : {M : Type 1} → statement M
+first-reach-spec =
     tie.close
     (tie.spec
     Inv-loop
