@@ -10,7 +10,7 @@ use borrow.Author.Tests.{ne-eqb, lt-ltb, eqb-true}
 use Rattle.units.specs.Words.{rangeOf, addr}
 use Rattle.units.specs.declared.Range as units
 use Rattle.units.specs.inner.Aims.{isNone, none-range}
-use Rattle.units.proofs.Tests.{by, tests}
+use Rattle.units.proofs.Tests.{by, clash, tests}
 use Rattle.model.specs.Marks.{Range, size, struct, plain, total}
 use Rattle.model.specs.inner.Lists.{Apart, overlaps, insert-in}
 use Rattle.model.proofs.Places.{overlaps-above, insert-apart-of, insert-join}
@@ -78,10 +78,12 @@ module _ (base x b l : ℕ) (ws : List ℕ) (p : units.Range) (joins : ℕ) (xb 
 
     join-some : Laid base (r ∷ rs) ws → joinOf p (rangeOf x l) joins s .overlaps ≡ false → Out (r ∷ rs) (joinOf p (rangeOf x l) joins s)
     join-some d o =
-        by (eqb (s .here .base .0) l)
+        by (ltb (s .here .base .0) l)
+        (λ t. clash {t = joinOf p (rangeOf x l) joins s .overlaps} (rw (here-some, t)) o)
+        (λ t. by (eqb (s .here .base .0) l)
         (λ u. let k : r .base ≡ l = sym here-base ∙ eqb-true (s .here .base .0) l u in
         let w : s .here .limit .0 ≡ r .limit = ap (λ (v : units.Range). v .limit .0) (a .0) in
-        rw (here-some, u) (record {
+        rw (here-some, t, u) (record {
           tail = rs;
           more = 1;
           into = rw w (insert-join x l (omega arith) r rs (sym k));
@@ -94,9 +96,8 @@ module _ (base x b l : ℕ) (ws : List ℕ) (p : units.Range) (joins : ℕ) (xb 
           bytes = rw w (omega arith);
           laid = d .1;
         }))
-        (λ u. let t : ltb (s .here .base .0) l ≡ false = rw (here-some, u) at o in
-        let k : l < r .base = omega (tests, here-base) in
-        rw (here-some, u) (record {
+        (λ u. let k : l < r .base = omega (tests, here-base) in
+        rw (here-some, t, u) (record {
           tail = r ∷ rs;
           more = 0;
           into = insert-apart-of x l (omega arith) r rs k;
@@ -108,15 +109,17 @@ module _ (base x b l : ℕ) (ws : List ℕ) (p : units.Range) (joins : ℕ) (xb 
           joined = omega arith;
           bytes = omega arith;
           laid = d;
-        }))
+        })))
 
+    -- it overlaps r where r begins below its limit
     join-meets : b < r .limit → overlaps b l (r ∷ rs) ≡ joinOf p (rangeOf x l) joins s .overlaps
     join-meets k =
-        by (eqb (s .here .base .0) l)
-        (λ u. rw (here-some, u) (clear-of (omega (tests, here-base))))
-        (λ u. by (ltb (s .here .base .0) l)
-        (λ t. let m : r .base < l = omega (tests, here-base) in rw (here-some, u, t, lt-ltb (r .base) l m, lt-ltb b (r .limit) k))
-        (λ t. rw (here-some, u, t) (clear-of (omega (tests, here-base)))))
+        by (ltb (s .here .base .0) l)
+        (λ t. let m : r .base < l = omega (tests, here-base) in rw (here-some, t, lt-ltb (r .base) l m, lt-ltb b (r .limit) k))
+        (λ t. clear-of (omega (tests, here-base)) ∙ sym (no-overlap t))
+      where
+        no-overlap : ltb (s .here .base .0) l ≡ false → joinOf p (rangeOf x l) joins s .overlaps ≡ false
+        no-overlap t = by (eqb (s .here .base .0) l) (λ u. rw (here-some, t, u)) (λ u. rw (here-some, t, u))
 
   pub joins-free : (lo hi : ℕ) (ups : List Range) (s : Spot) → Apart lo hi ups → Laid base ups ws → Above ups s →
       joinOf p (rangeOf x l) joins s .overlaps ≡ false → Out ups (joinOf p (rangeOf x l) joins s)

@@ -13,29 +13,31 @@ use Rattle.list_words.specs.inner.Descriptors.{Standing, descriptorAt}
 use Rattle.list_words.specs.inner.Surveys.{spot}
 use Rattle.list_words.specs.declared.Descriptor.{Descriptor}
 use Rattle.list_words.specs.declared.Spot.{Spot}
-use Rattle.list_edits.specs.inner.Places.{Following, followingOf, joinOf, Placing, placeOf}
+use Rattle.list_edits.specs.inner.Places.{Following, followingOf, placed, joinOf, Placing, placeOf}
 use Rattle.list_edits.specs.declared.Join.{Join}
 
 -- BEFORE THE RANGE ABOVE
 module _ (p f : Range) (joins : ℕ) (s : Spot) (r : Bool) (e : r ≡ eqb (s .here .base .0) 0) where
-  pub before-none : r ≡ true → record { prev = p; fresh = f; next = s .next; joins = joins; overlaps = false } ≡ joinOf p f joins s
-  before-none t = rw (sym e ∙ t)
+  pub before-none : r ≡ true → (m : Join) → m ≡ placed p f (s .next) joins false → m ≡ joinOf p f joins s
+  before-none t m em = rw (sym e ∙ t) em
 
-  module _ (t : r ≡ false) (v : Bool) (ev : v ≡ eqb (s .here .base .0) (f .limit .0)) where
+  module _ (t : r ≡ false) (u : Bool) (eu : u ≡ ltb (s .here .base .0) (f .limit .0)) where
     some : isNone (s .here) ≡ false
     some = sym e ∙ t
 
-    pub before-touching : v ≡ true → (w : Range) → w ≡ rangeOf (f .base .0) (s .here .limit .0) →
-        record { prev = p; fresh = w; next = s .next; joins = joins + 1; overlaps = false } ≡ joinOf p f joins s
-    before-touching fv w ew =
-        rw (some, sym ev ∙ fv) (ap (λ (x : Range). record { prev = p; fresh = x; next = s .next; joins = joins + 1; overlaps = false }) ew)
+    pub before-overlap : u ≡ true → record { prev = p; fresh = f; next = s .next; joins = joins; overlaps = true } ≡ joinOf p f joins s
+    before-overlap fu = rw (some, sym eu ∙ fu)
 
-    pub before-apart : v ≡ false → (u : Bool) → u ≡ ltb (s .here .base .0) (f .limit .0) →
-        record { prev = p; fresh = f; next = s .here .base; joins = joins; overlaps = u } ≡ joinOf p f joins s
-    before-apart fv u eu =
-        rw (some, sym ev ∙ fv) (ap (λ (x : Bool). record { prev = p; fresh = f; next = s .here .base; joins = joins; overlaps = x }) eu)
+    module _ (fu : u ≡ false) (v : Bool) (ev : v ≡ eqb (s .here .base .0) (f .limit .0)) where
+      pub before-touching : v ≡ true → (w : Range) → w ≡ rangeOf (f .base .0) (s .here .limit .0) →
+          (m : Join) → m ≡ placed p w (s .next) (joins + 1) false → m ≡ joinOf p f joins s
+      before-touching fv w ew m em =
+          rw (some, sym eu ∙ fu, sym ev ∙ fv) (em ∙ ap (λ (x : Range). placed p x (s .next) (joins + 1) false) ew)
 
-pub ruleset before-ways = (before-none, before-touching, before-apart)
+      pub before-apart : v ≡ false → (m : Join) → m ≡ placed p f (s .here .base) joins false → m ≡ joinOf p f joins s
+      before-apart fv m em = rw (some, sym eu ∙ fu, sym ev ∙ fv) em
+
+pub ruleset before-ways = (before-none, before-overlap, before-touching, before-apart)
 
 -- THE SPOT AFTER A SPOT
 module _ (a : Arena) (ws : List ℕ) (s : Spot) (r : Bool) (e : r ≡ eqb (s .next .0) 0) where

@@ -1,11 +1,26 @@
 // The place of a range in a sound list, joined with the ranges that it touches.
 use crate::Join;
 use list_words::Spot;
+use units::Addr;
 use units::Arena;
 use units::Range;
+ghost use mathlib.Core.Bool.{false};
 ghost use mathlib.Core.Path.{_≡_};
 ghost use Prim.Native.Nat.{_≤_};
-ghost use Rattle.list_edits.specs.inner.Places.{Following, followingOf, joinOf, Placing, placeOf};
+ghost use Rattle.list_edits.specs.inner.Places.{Following, followingOf, placed, joinOf, Placing, placeOf};
+
+// A place where the range overlaps none.
+fn free(prev: Range, fresh: Range, next: Addr, joins: u64) -> Join
+    ensures { λ r. ⌜ r ≡ placed prev fresh next joins false ⌝ }
+{
+    Join {
+        prev,
+        fresh,
+        next,
+        joins,
+        overlaps: false,
+    }
+}
 
 // The place of a fresh range before the range above it, which may touch it or overlap it.
 fn place_before(prev: Range, fresh: Range, joins: u64, above: Spot) -> Join
@@ -16,30 +31,21 @@ fn place_before(prev: Range, fresh: Range, joins: u64, above: Spot) -> Join
     let next = above.next;
     let base = up.base;
     if base.is_zero() {
+        return free(prev, fresh, next, joins);
+    }
+    if base.lt(fresh.limit) {
         return Join {
             prev,
             fresh,
             next,
             joins,
-            overlaps: false,
+            overlaps: true,
         };
     }
     if base.same(fresh.limit) {
-        return Join {
-            prev,
-            fresh: Range::new(fresh.base, up.limit),
-            next,
-            joins: joins + 1,
-            overlaps: false,
-        };
+        return free(prev, Range::new(fresh.base, up.limit), next, joins + 1);
     }
-    Join {
-        prev,
-        fresh,
-        next: base,
-        joins,
-        overlaps: base.lt(fresh.limit),
-    }
+    free(prev, fresh, base, joins)
 }
 
 // The spot after a spot of a sound list.

@@ -33,7 +33,7 @@ use Rattle.block_land.proofs.LayoutLaws as block-laws
 use Rattle.pair_model.specs.Pairs.{both, delete, pair-step}
 use Rattle.pair.specs.Calls.{called, changed, deleted}
 use Rattle.pair.specs.inner.Deletes.{begins, Asked, Unlisted, Spilling, Nowhere}
-use Rattle.pair.specs.inner.Editing.{listLess, tableLess, Taking}
+use Rattle.pair.specs.inner.Editing.{listLess, tableLess, TakingListed}
 use Rattle.pair.specs.declared.Changed.{Changed}
 use Rattle.pair.specs.declared.Pair.{Pair}
 use Rattle.pair.proofs.Asking.{list-fine, block-fine, readable, order, list-good}
@@ -81,7 +81,7 @@ module _ (p : Pair) (ws vs : List ℕ) (y : units.Range) (s : Spot) (e : Entry) 
       good : good-range (list.arenaOf (p .list)) (y .base .0) (y .limit .0) ≡ true
       good = list-good p ws vs y s e k
 
-      pub in-list-takes : t ≡ true → Taking (p .list) ws y s
+      pub in-list-takes : t ≡ true → TakingListed (p .list) ws y s
       in-list-takes f = listed-takes (p .list) ws y s looked good (sym et ∙ f)
 
       pub in-list-0 : t ≡ true → (h : ListLand) (ws' : List ℕ) → (h ≡ list.closed (p .list) (listLess (p .list) ws y)) × (ws' ≡ lay (list.base (p .list)) (listLess (p .list) ws y) ws) →

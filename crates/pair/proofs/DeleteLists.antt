@@ -22,7 +22,7 @@ use Rattle.list_land.specs.declared.ListLand.{ListLand}
 use Rattle.list_land.proofs.Requests.{looked-fine, looked-held}
 use Rattle.list_land.proofs.Sound.{Fine}
 use Rattle.pair.specs.inner.Deletes.{begins}
-use Rattle.pair.specs.inner.Editing.{Taking}
+use Rattle.pair.specs.inner.Editing.{TakingListed}
 use Rattle.pair.proofs.ReachedHere.{begins-holds, reach-holder, spot-reach}
 
 module _ (h : ListLand) (ws : List ℕ) (y : units.Range) (s : Spot) (k : Looked h ws (reachLimit y) s)
@@ -52,7 +52,7 @@ module _ (h : ListLand) (ws : List ℕ) (y : units.Range) (s : Spot) (k : Looked
   pub listed-here : s .here ≡ struct (holder b l met)
   listed-here = at-reach ∙ ap here-of (reach-holder b l (list.base h) (list.limit h) met (rules .order) (fit .apart) listed-holds)
 
-  pub listed-takes : Taking h ws y s
+  pub listed-takes : TakingListed h ws y s
   listed-takes = record {
     aim = reachLimit y;
     held = looked-held h ws (reachLimit y) s k (arenaIn h) refl (chainIn h) refl;

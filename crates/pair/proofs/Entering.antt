@@ -1,25 +1,29 @@
 -- A flush, and a range that enters the flushed pair: the ways out of `Pair::flushed`, `Pair::enter_list` and `Pair::enter`. Assumes nothing.
 use Prim.Native.Nat.{ℕ, _+_, _-_, _<_}
+use mathlib.Core.Bool.{Bool, true, false, cond}
 use mathlib.Core.List.{List}
-use mathlib.Core.Path.{_≡_, sym, ap, _∙_}
+use mathlib.Core.Path.{_≡_, refl, sym, ap, _∙_}
 use native.Mathlib.Omega.{arith}
+use lib.ListN.{length}
 use Rattle.units.specs.declared.Range as units
 use Rattle.units.specs.declared.Size.{Size}
 use Rattle.units.specs.declared.aims.Aim.{Aim}
 use Rattle.units.specs.declared.rules.Arena.{Arena}
-use Rattle.units.proofs.Tests.{clash}
-use Rattle.model.specs.Marks.{total}
+use Rattle.model.specs.Marks.{Range, struct, total}
+use Rattle.model.specs.inner.Lists.{overlaps, holder}
 use Rattle.model.proofs.Totals.{total-insert}
-use Rattle.list_words.specs.Laying.{lay}
 use Rattle.list_words.specs.inner.Surveys.{walkOf, kept-of}
 use Rattle.list_words.specs.declared.Spot as list-spot
+use Rattle.list_edits.specs.inner.Chains as chains
+use Rattle.list_edits.specs.inner.Chains.{metOf, Held, mayAsk}
+use Rattle.list_edits.specs.declared.ChainJoined as list-joined
 use Rattle.list_land.specs.Layout as list
 use Rattle.list_land.specs.inner.Parts as list-parts
 use Rattle.list_land.specs.declared.ListLand.{ListLand}
 use Rattle.block_edits.specs.inner.Edits as edits
 use Rattle.block_edits.specs.inner.Edits.{Sorted}
-use Rattle.block_edits.specs.declared.TableEdited.{TableEdited}
-use Rattle.block_edits.proofs.Answered.{put-refused, put-full, put-done, put-words}
+use Rattle.block_edits.specs.declared.TableJoined.{Joined}
+use Rattle.block_edits.proofs.Answered.{Did}
 use Rattle.block_land.specs.Layout as block
 use Rattle.block_land.specs.inner.Parts as block-parts
 use Rattle.block_land.specs.declared.BlockLand.{BlockLand}
@@ -29,12 +33,11 @@ use Rattle.flush.specs.declared.FlushCheck.{FlushCheck}
 use Rattle.flush.specs.declared.Flushed.{Flushed}
 use Rattle.flush.proofs.FlushKeeps.{checked, is-accepted}
 use Rattle.pair_words.specs.inner.Lefts.{Left}
-use Rattle.pair.specs.inner.Editing.{listMore, joined, Giving}
-use Rattle.pair.specs.inner.Inserts.{flushedCounts, flushedNodes, enterList, enterWords, Roomless, blocked, enteredNodes, entered, enteredWords, Open}
+use Rattle.pair.specs.inner.Inserts.{flushedCounts, flushedNodes, enterList, enterWords, Roomless, blocked, roomy, enteredNodes, entered, enteredWords, Open}
 use Rattle.pair.specs.declared.Pair.{Pair}
-use Rattle.pair.specs.declared.edits.Joined.{TableJoined}
 use Rattle.pair.specs.declared.insert.Counts.{Counts}
 use Rattle.pair.specs.declared.insert.Entered.{Entered}
+use Rattle.pair.proofs.LandEdits.{join-asks, join-done}
 
 -- THE FLUSH
 abbrev countsIn : ListLand → BlockLand → Counts
@@ -53,54 +56,61 @@ module _ (p : Pair) (ws : List ℕ) (y : units.Range) (s : list-spot.Spot) (k : 
     pub enter-left : Left a ws (p .list .head) (y .base) s
     enter-left = rw ea (k .left)
 
-    pub enter-giving : (t : list-spot.Spot) → t ≡ kept-of (Aim.Reach (y .base)) (walkOf a ws (p .list .head .0) .met) → Giving (p .list) ws y t
-    enter-giving t et =
+    pub enter-asks : (t : list-spot.Spot) → t ≡ kept-of (Aim.Reach (y .base)) (walkOf a ws (p .list .head .0) .met) →
+        Held a ws (list-parts.chainIn (p .list)) (Aim.Reach (y .base)) t × ((mayAsk a y ≡ true) × (overlaps (y .base .0) (y .limit .0) (metOf a ws (list-parts.chainIn (p .list))) ≡ false))
+    enter-asks t et =
         let u : t ≡ kept-of (Aim.Reach (y .base)) (list.walkOf (p .list) ws .met) = rw ea at et in
-        record { looked = record { good = k .good; whole = k .whole; kept = u }; good = k .asked; apart = k .clear }
+        join-asks (p .list) ws y a ea (list-parts.chainIn (p .list)) refl t (record { good = k .good; whole = k .whole; kept = u }) (k .asked) (k .clear)
 
-  abbrev listed : TableJoined → Entered
-  listed g = record { counts = record { chain = g .chain; ranges = p .block .ranges; bytes = p .block .bytes }; range = g .range }
+    abbrev listed : list-joined.Joined → Entered
+    listed j = record { counts = record { chain = j .chain; ranges = p .block .ranges; bytes = p .block .bytes }; range = j .range }
 
-  pub enter-listed : (g : TableJoined) (ws' : List ℕ) → (g ≡ joined (p .list) ws y) × (ws' ≡ lay (list.base (p .list)) (listMore (p .list) ws y) ws) →
-      (listed g ≡ enterList p ws y) × (ws' ≡ enterWords p ws y)
-  enter-listed g ws' e = (ap listed (e .0), e .1)
+    pub enter-listed : (j : list-joined.Joined) (ws' : List ℕ) →
+        (j ≡ chains.joinedOf (metOf a ws (list-parts.chainIn (p .list))) y) × (ws' ≡ chains.joinedWords (metOf a ws (list-parts.chainIn (p .list))) y (a .base .0) ws) →
+        (listed j ≡ enterList p ws y) × (ws' ≡ enterWords p ws y)
+    enter-listed j ws' e = let d = join-done (p .list) ws y a ea (list-parts.chainIn (p .list)) refl j ws' e in (ap listed (d .0), d .1)
 
 -- INTO THE BLOCK LAND
+module _ (r : Range) (n : ℕ) where
+  joined-full : (room : Bool) → cond room (Joined.Done (struct r) n) Joined.Full ≡ Joined.Full → room ≡ false
+  joined-full true e = let z : _≡_ {A = ℕ} 0 1 = cc in absurd (omega arith)
+  joined-full false e = refl
+
+  joined-done : (room : Bool) (x : units.Range) (m : ℕ) → cond room (Joined.Done (struct r) n) Joined.Full ≡ Joined.Done x m → Did false room r n x m
+  joined-done true x m e = record { good = refl; fits = refl; range = cc; count = cc }
+  joined-done false x m e = let z : _≡_ {A = ℕ} 0 1 = cc in absurd (omega arith)
+
 module _ (p : Pair) (ws vs : List ℕ) (y : units.Range) (s : list-spot.Spot) (k : Open p ws vs y s) where
   read : block-parts.Readable (p .block) vs
   read = record { good = k .good; whole = k .whole }
 
-  pub enter-sorted : (i : ℕ) → Spot vs (p .block .ranges) (y .base .0) i → Sorted vs (p .block .ranges) × ((y .base .0 < y .limit .0) × Spot vs (p .block .ranges) (y .base .0) i)
-  enter-sorted i t = (sorted (p .block) vs read, (k .proper, t))
+  pub enter-sorted : (i : ℕ) → Spot vs (p .block .ranges) (y .base .0) i →
+      Sorted vs (p .block .ranges) × ((y .base .0 < y .limit .0) × (Spot vs (p .block .ranges) (y .base .0) i × (overlaps (y .base .0) (y .limit .0) (block.tableOf (p .block) vs) ≡ false)))
+  enter-sorted i t = (sorted (p .block) vs read, (k .proper, (t, k .clear)))
 
   abbrev Enters : Entered → List ℕ → List ℕ → Type 0
   Enters w ws' vs' = (w ≡ entered p ws vs y) × (ws' ≡ enteredWords p ws vs y) × (vs' ≡ enteredNodes p vs y)
 
-  module _ (d : TableEdited) (vs' : List ℕ) (ed : (d ≡ edits.putOf vs (p .block .ranges) y) × (vs' ≡ edits.putWords vs (p .block .ranges) y)) where
-    pub enter-never : {P : Type 0} → d ≡ TableEdited.Refused → P
-    enter-never f = clash (put-refused vs (p .block .ranges) y (sym (ed .0) ∙ f)) (k .clear)
-
-    pub enter-full : d ≡ TableEdited.Full → (w : Entered) (ws' : List ℕ) → (w ≡ enterList p ws y) × (ws' ≡ enterWords p ws y) → Enters w ws' vs'
+  module _ (d : Joined) (vs' : List ℕ) (ed : (d ≡ edits.joinedOf vs (p .block .ranges) y) × (vs' ≡ edits.joinedWords vs (p .block .ranges) y)) where
+    pub enter-full : d ≡ Joined.Full → (w : Entered) (ws' : List ℕ) → (w ≡ enterList p ws y) × (ws' ≡ enterWords p ws y) → Enters w ws' vs'
     enter-full f w ws' q =
-        let o = put-full vs (p .block .ranges) y (sym (ed .0) ∙ f) in
-        let v = put-words vs (p .block .ranges) y TableEdited.Full (sym (ed .0) ∙ f) in
-        (rw (o .1) (q .0), rw (o .1) (q .1), rw (o .1) (ed .1 ∙ v))
+        let o = joined-full (holder (y .base .0) (y .limit .0) (blocked p vs y)) (length (blocked p vs y)) (roomy p vs y) (sym (ed .0) ∙ f) in
+        (rw o (q .0), rw o (q .1), ed .1)
 
-    module _ (x : units.Range) (m : ℕ) (f : d ≡ TableEdited.Done x m) (z : Size) (ez : z .0 ≡ y .limit .0 - y .base .0) where
+    module _ (x : units.Range) (m : ℕ) (f : d ≡ Joined.Done x m) (z : Size) (ez : z .0 ≡ y .limit .0 - y .base .0) where
       pub enter-room : p .block .bytes .0 + z .0 < 18446744073709551616
       enter-room = let t = few-bytes (p .block) vs read in let u = k .upto in omega arith
 
       pub enter-blocked : (t : Size) → t .0 ≡ p .block .bytes .0 + z .0 →
           Enters (record { counts = record { chain = list-parts.chainIn (p .list); ranges = m; bytes = t }; range = x }) ws vs'
       enter-blocked t et =
-          let o = put-done vs (p .block .ranges) y x m (sym (ed .0) ∙ f) in
+          let o = joined-done (holder (y .base .0) (y .limit .0) (blocked p vs y)) (length (blocked p vs y)) (roomy p vs y) x m (sym (ed .0) ∙ f) in
           let u = total-insert (y .base .0) (y .limit .0) (block.base (p .block)) (block.limit (p .block)) (block.tableOf (p .block) vs) (k .proper) (whole (p .block) vs read .apart) in
           let n = whole (p .block) vs read .bytes in
           let e : t .0 ≡ total (blocked p vs y) = omega arith in
           let c = o .count in
-          let v = o .range in
-          let w = put-words vs (p .block .ranges) y (TableEdited.Done x m) (sym (ed .0) ∙ f) in (
+          let v = o .range in (
             rw (o .fits) (λ i. record { counts = record { chain = list-parts.chainIn (p .list); ranges = c i; bytes = record { 0 = e i } }; range = v i }),
             rw (o .fits),
-            rw (o .fits) (ed .1 ∙ w),
+            ed .1,
           )

@@ -34,7 +34,7 @@ use Rattle.block_land.specs.declared.Found as block-found
 use Rattle.block_land.proofs.FindAnswers as block-finds
 use Rattle.block_land.proofs.Land.{block-land}
 use Rattle.block_land.proofs.Requests.{readable}
-use Rattle.pair.specs.inner.Editing.{listLess, tableLess, Taking, Lowering}
+use Rattle.pair.specs.inner.Editing.{listLess, tableLess, TakingListed, TakingTabled}
 use Rattle.pair.specs.inner.Finding.{ListChosen, BlockChosen, listFound, blockFound}
 use Rattle.pair.specs.declared.Found.{Found}
 use Rattle.pair.specs.declared.Pair.{Pair}
@@ -61,7 +61,7 @@ module _ (p : Pair) (ws : List ℕ) (w : Which) (n : Size) (mode : Mode) (s : Sp
     sized : m .0 ≡ findSize (p .list .align .0) (n .0)
     sized = em ∙ ap (λ (x : Arena). findSize (x .align .0) (n .0)) ea
 
-    pub list-takes : Taking (p .list) ws y s
+    pub list-takes : TakingListed (p .list) ws y s
     list-takes =
         list-finds.find-holding (p .list) ws w n mode s (k .looked) (k .good) _ refl (k .there)
         (list-parts.arenaIn (p .list)) refl m sized o y ey (list-parts.chainIn (p .list)) refl
@@ -91,8 +91,8 @@ module _ (p : Pair) (vs : List ℕ) (w : Which) (n : Size) (mode : Mode) (e : En
 
   module _ (a : Arena) (ea : a ≡ block-parts.arenaIn (p .block)) (m : Size) (em : m .0 ≡ findSize (a .align .0) (n .0))
       (o : OneOf (1 ∷ 2 ∷ 3 ∷ []) (tagOf mode-type.the-type mode)) (y : units.Range) (ey : y ≡ struct (part w mode (m .0) (plain (e .here)))) where
-    pub block-lowers : Lowering (p .block) vs (e .number) y
-    block-lowers = record {
+    pub block-takes : TakingTabled (p .block) vs (e .number) y
+    block-takes = record {
       readable = readable (p .block) vs (block-parts.findAim (p .block) w n) e (k .looked);
       at-pair = block-finds.find-holding (p .block) vs w n mode e (k .looked) (k .good) _ refl (k .there) a ea m em o y ey;
       held = find-part block-land (p .block) vs w n mode e (k .looked) (k .good) _ refl (k .there) a ea m em o y ey .held;

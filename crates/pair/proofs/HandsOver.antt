@@ -10,6 +10,7 @@ use borrow.Author.Tests.{ne-eqb}
 use Rattle.units.specs.inner.Aims.{isNone}
 use Rattle.units.specs.Words.{rangeOf}
 use Rattle.units.specs.declared.Range as units
+use Rattle.units.specs.declared.rules.Arena as arenas
 use Rattle.units.proofs.Tests.{by, clash}
 use Rattle.model.specs.Answers.{RangeRules}
 use Rattle.model.specs.Calls.{Arena, good-range}
@@ -23,9 +24,13 @@ use Rattle.model.proofs.Parts.{Stands, mem-stands}
 use Rattle.model.proofs.Requests.{range-rules, rules-range}
 use Rattle.model.proofs.Surrounding.{Held, held}
 use Rattle.list_words.specs.Laying.{lay}
+use Rattle.list_words.specs.declared.Chain.{Chain}
 use Rattle.list_words.specs.declared.Spot.{Spot}
+use Rattle.list_edits.specs.inner.Chains as chains
+use Rattle.list_edits.specs.inner.Chains.{metOf, mayAsk}
 use Rattle.list_land.specs.Layout as list
-use Rattle.list_land.specs.inner.Parts.{reachLimit}
+use Rattle.list_land.specs.inner.Parts.{arenaIn, chainIn, reachBase, reachLimit}
+use Rattle.list_land.specs.declared.ListLand.{ListLand}
 use Rattle.block_words.specs.Words.{capacity, fill}
 use Rattle.block_words.specs.declared.Entry.{Entry}
 use Rattle.block_edits.specs.inner.Places.{Holding}
@@ -41,13 +46,13 @@ use Rattle.pair_model.proofs.HandingOver.{upper}
 use Rattle.pair_model.proofs.InsertTurns.{no-overlap}
 use Rattle.pair_model.proofs.PairLaws.{meet-disjoint}
 use Rattle.pair.specs.inner.Deletes.{Asked, Spilling}
-use Rattle.pair.specs.inner.Editing.{listMore, tableLess, given, Giving, Lowering}
-use Rattle.pair.specs.declared.edits.Given.{Given}
+use Rattle.pair.specs.inner.Editing.{listMore, tableLess, TakingTabled}
 use Rattle.pair.specs.declared.Pair.{Pair}
 use Rattle.pair.proofs.Calling.{apart, list-looked, flush-checked}
 use Rattle.pair.proofs.Checking.{same-up}
 use Rattle.pair.proofs.Asking.{block-fine, readable, order}
 use Rattle.pair.proofs.DeleteAnswers.{Deletes, does}
+use Rattle.pair.proofs.LandEdits.{join-asks}
 use Rattle.pair.proofs.ReachedHere.{reach-holder, entry-reach}
 
 module _ (p : Pair) (ws vs : List ℕ) (y : units.Range) (s : Spot) (e : Entry) (k : Spilling p ws vs y s e) where
@@ -141,10 +146,11 @@ module _ (p : Pair) (ws vs : List ℕ) (y : units.Range) (s : Spot) (e : Entry) 
     is-upper : u ≡ rangeOf l (q .limit)
     is-upper = eu ∙ ap (λ (r : units.Range). rangeOf l (r .limit .0)) q-here
 
-    pub over-giving : Giving (p .list) ws u s
-    over-giving =
-        subst (λ (x : units.Range). Giving (p .list) ws x s) (sym is-upper)
-        (record { looked = list-looked p ws vs (reachLimit y) s e (asked .checked); good = upper-good; apart = upper-apart })
+    pub over-asks : (t : arenas.Arena) → t ≡ arenaIn (p .list) → (c : Chain) → c ≡ chainIn (p .list) →
+        chains.Held t ws c (reachBase u) s × ((mayAsk t u ≡ true) × (overlaps (u .base .0) (u .limit .0) (metOf t ws c) ≡ false))
+    over-asks t et c ec =
+        join-asks (p .list) ws u t et c ec s
+        (rw is-upper (list-looked p ws vs (reachLimit y) s e (asked .checked))) (rw is-upper upper-good) (rw is-upper upper-apart)
 
     module _ (m : units.Range) (em : m ≡ rangeOf (y .base .0) (e .here .limit .0)) where
       is-above : m ≡ rangeOf b (q .limit)
@@ -171,9 +177,9 @@ module _ (p : Pair) (ws vs : List ℕ) (y : units.Range) (s : Spot) (e : Entry) 
             high = omega arith;
           }
 
-      pub over-lowering : Lowering (p .block) vs (e .number) m
-      over-lowering =
-          subst (λ (x : units.Range). Lowering (p .block) vs (e .number) x) (sym is-above)
+      pub over-takes : TakingTabled (p .block) vs (e .number) m
+      over-takes =
+          subst (λ (x : units.Range). TakingTabled (p .block) vs (e .number) x) (sym is-above)
           (record {
             readable = readable p ws vs y s e asked;
             at-pair = at-pair;
@@ -181,11 +187,11 @@ module _ (p : Pair) (ws vs : List ℕ) (y : units.Range) (s : Spot) (e : Entry) 
             fits = room;
           })
 
-      pub over-0 : (h : Given) (ws' : List ℕ) → (h ≡ given (p .list) ws u) × (ws' ≡ lay (list.base (p .list)) (listMore (p .list) ws u) ws) →
+      pub over-0 : (h : ListLand) (ws' : List ℕ) → (h ≡ list.closed (p .list) (listMore (p .list) ws u)) × (ws' ≡ lay (list.base (p .list)) (listMore (p .list) ws u) ws) →
           (n : BlockLand) (vs' : List ℕ) → (n ≡ block.closed (p .block) (tableLess (p .block) vs m)) × (vs' ≡ fill (tableLess (p .block) vs m) vs) →
-          Deletes p ws vs y (record { pair = record { list = h .list; block = n }; answer = 0; range = e .here }) ws' vs'
+          Deletes p ws vs y (record { pair = record { list = h; block = n }; answer = 0; range = e .here }) ws' vs'
       over-0 h ws' f n vs' g =
-          let c : (h ≡ given (p .list) ws (rangeOf l (q .limit))) × (ws' ≡ lay (list.base (p .list)) (insert-in l (q .limit) rs) ws) = rw is-upper at f in
+          let c : (h ≡ list.closed (p .list) (insert-in l (q .limit) rs)) × (ws' ≡ lay (list.base (p .list)) (insert-in l (q .limit) rs) ws) = rw is-upper at f in
           let d : (n ≡ block.closed (p .block) (delete-from b (q .limit) qs)) × (vs' ≡ fill (delete-from b (q .limit) qs) vs) = rw is-above at g in
           does p ws vs y s e asked q (insert-in l (q .limit) rs) (delete-from b (q .limit) qs) (rw (asked .good, k .asked .unlisted, k .held, k .full))
-          (e .here) q-here (h .list) (ap (λ (x : Given). x .list) (c .0)) n (d .0) ws' vs' (c .1) (d .1)
+          (e .here) q-here h (c .0) n (d .0) ws' vs' (c .1) (d .1)

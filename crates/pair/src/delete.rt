@@ -3,9 +3,8 @@
 use crate::Changed;
 use crate::Pair;
 use crate::PairCheck;
-use crate::edits::give;
-use crate::edits::lower;
-use crate::edits::take;
+use crate::edits::take_listed;
+use crate::edits::take_tabled;
 use crate::refused;
 use block_edits::TableEdited;
 use block_words::Entry;
@@ -60,9 +59,11 @@ impl Pair {
         let here = entry.here;
         let upper = Range::new(range.limit, here.limit);
         let above = Range::new(range.base, here.limit);
-        let given = give(self.list, words, upper, spot);
-        let list = given.list;
-        let block = lower(self.block, nodes, entry.number, above);
+        let list = self.list;
+        let joined = list_edits::join_at(list.arena(), words, list.chain(), upper, spot);
+        let chain = joined.chain;
+        let list = list.close(chain.head, chain.ranges, chain.bytes);
+        let block = take_tabled(self.block, nodes, entry.number, above);
         let pair = Pair { list, block };
         Changed {
             pair,
@@ -116,7 +117,7 @@ impl Pair {
         let here = spot.here;
         if begins_below(range, here) {
             let block = self.block;
-            let list = take(self.list, words, range, spot);
+            let list = take_listed(self.list, words, range, spot);
             let pair = Pair { list, block };
             return Changed {
                 pair,

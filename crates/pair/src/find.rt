@@ -2,8 +2,8 @@
 use crate::Found;
 use crate::Pair;
 use crate::PairCheck;
-use crate::edits::lower;
-use crate::edits::take;
+use crate::edits::take_listed;
+use crate::edits::take_tabled;
 use crate::none_found;
 use block_words::Entry;
 use list_words::Spot;
@@ -101,7 +101,7 @@ impl Pair {
                 old: here,
             };
         }
-        let list = take(list, words, part, spot);
+        let list = take_listed(list, words, part, spot);
         Found {
             pair: Pair { list, block },
             answer: 0,
@@ -134,7 +134,7 @@ impl Pair {
                 old: here,
             };
         }
-        let block = lower(block, nodes, entry.number, part);
+        let block = take_tabled(block, nodes, entry.number, part);
         Found {
             pair: Pair { list, block },
             answer: 0,

@@ -2,7 +2,6 @@
 use crate::Changed;
 use crate::Pair;
 use crate::PairCheck;
-use crate::edits::put;
 use crate::refused;
 use block_words::Entry;
 use block_words::seeks;
@@ -76,16 +75,17 @@ impl Pair {
         let list = self.list;
         let chain = rest.chain;
         let head = chain.head;
-        let place = pair_words::spot_left(list.arena(), words, head, range.base, spot);
-        let done = put(list, chain, words, range, place);
-        let chain = done.chain;
+        let arena = list.arena();
+        let place = pair_words::spot_left(arena, words, head, range.base, spot);
+        let joined = list_edits::join_at(arena, words, chain, range, place);
+        let chain = joined.chain;
         let bytes = rest.bytes;
         let counts = Counts {
             chain,
             ranges: rest.ranges,
             bytes,
         };
-        let fresh = done.range;
+        let fresh = joined.range;
         Entered {
             counts,
             range: fresh,
@@ -106,13 +106,9 @@ impl Pair {
         requires { ⌜ places.FirstReach (now nodes) (rest .ranges) (range .base .0) i ⌝ }
         ensures { λ r. ⌜ (r ≡ entered (closedBy self rest) (now (words .entry)) (now (nodes .entry)) range) × (now (words .exit) ≡ enteredWords (closedBy self rest) (now (words .entry)) (now (nodes .entry)) range) × (now (nodes .exit) ≡ enteredNodes (closedBy self rest) (now (nodes .entry)) range) ⌝ }
     {
-        match block_edits::put_at(nodes, rest.ranges, i, range) {
-            block_edits::TableEdited::Refused => Entered {
-                counts: rest,
-                range,
-            },
-            block_edits::TableEdited::Full => self.enter_list(rest, words, range, spot),
-            block_edits::TableEdited::Done(fresh, count) => {
+        match block_edits::join_at(nodes, rest.ranges, i, range) {
+            block_edits::TableJoined::Full => self.enter_list(rest, words, range, spot),
+            block_edits::TableJoined::Done(fresh, count) => {
                 let chain = rest.chain;
                 let held = rest.bytes;
                 let bytes = held.plus(range.size());

@@ -25,7 +25,7 @@ use Rattle.flush.specs.Flush.{checkOf, moves}
 use Rattle.flush.specs.declared.FlushCheck.{FlushCheck}
 use Rattle.pair_model.specs.Pairs.{both, any-free}
 use Rattle.pair_words.specs.inner.Lefts.{Left}
-use Rattle.pair.specs.inner.Editing.{listMore, chained, joined}
+use Rattle.pair.specs.inner.Editing.{listMore, chained}
 use Rattle.pair.specs.inner.Parts.{Ranged}
 use Rattle.pair.specs.declared.Pair.{Pair}
 use Rattle.pair.specs.declared.insert.Counts.{Counts}
@@ -53,8 +53,8 @@ module _ (p : Pair) (ws : List ℕ) (y : units.Range) where
   -- The list with the range in it, and its words.
   abbrev pub enterList : Entered
   enterList = record {
-    counts = record { chain = joined (p .list) ws y .chain; ranges = p .block .ranges; bytes = p .block .bytes };
-    range = joined (p .list) ws y .range;
+    counts = record { chain = chainOf (listMore (p .list) ws y); ranges = p .block .ranges; bytes = p .block .bytes };
+    range = struct (holder (y .base .0) (y .limit .0) (listMore (p .list) ws y));
   }
 
   abbrev pub enterWords : List ℕ

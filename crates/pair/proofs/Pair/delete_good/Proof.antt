@@ -7,20 +7,28 @@ use Rattle.pair.proofs.Pair.delete_good.Tie as tie
 begins-below-requires : tie.Need-begins-below-requires
 begins-below-requires c κs = search needs
 
-take-requires : tie.Need-take-requires
-take-requires c κs =
-    in-list-takes _ _ _ (c .before .before .before .before .before .before .before .args .range) _ _ (c .before .before .before .before .before .before .before .pre) _ (c .before .before .before .begins-below .ensures) (c .before .before .if1 .taken)
+take-listed-requires : tie.Need-take-listed-requires
+take-listed-requires c κs =
+    let begins = c .before .before .before in
+    let start = begins .before .before .before .before in
+    in-list-takes _ _ _ (start .args .range) _ _ (start .pre) _ (begins .begins-below .ensures) (c .before .before .if1 .taken)
 
 same-length : tie.Need-same-length
 same-length c = search needs
 
 returns : tie.Need-returns
 returns c =
-    in-list-0 _ _ _ (c .before .before .before .before .before .before .before .before .before .before .args .range) _ _ (c .before .before .before .before .before .before .before .before .before .before .pre) _ (c .before .before .before .before .before .before .begins-below .ensures) (c .before .before .before .before .before .if1 .taken) _ _ (c .before .before .take .ensures)
+    let taken = c .before .before in
+    let if1 = taken .before .before .before in
+    let begins = if1 .before in
+    let start = begins .before .before .before .before in
+    in-list-0 _ _ _ (start .args .range) _ _ (start .pre) _ (begins .begins-below .ensures) (if1 .if1 .taken) _ _ (taken .take-listed .ensures)
 
 delete-tabled-requires : tie.Need-delete-tabled-requires
 delete-tabled-requires c κs =
-    not-in-list _ _ _ (c .before .before .before .before .before .before .before .args .range) _ _ (c .before .before .before .before .before .before .before .pre) _ (c .before .before .before .begins-below .ensures) (c .before .before .if1 .left)
+    let begins = c .before .before .before in
+    let start = begins .before .before .before .before in
+    not-in-list _ _ _ (start .args .range) _ _ (start .pre) _ (begins .begins-below .ensures) (c .before .before .if1 .left)
 
 same-length-2 : tie.Need-same-length-2
 same-length-2 c = search needs
@@ -36,7 +44,7 @@ delete-good-spec =
     tie.close
     (tie.spec
     begins-below-requires
-    take-requires
+    take-listed-requires
     same-length
     returns
     delete-tabled-requires

@@ -1,5 +1,5 @@
 -- `Pair::find_in_block` meets its contract: the range as it stands, and a part of it taken out. Assumes nothing.
-use Rattle.pair.proofs.FindParts.{block-within, block-kept, block-lowers, block-0}
+use Rattle.pair.proofs.FindParts.{block-within, block-kept, block-takes, block-0}
 use borrow.Author.Needs.{needs}
 use Rattle.pair.proofs.Pair.find_in_block.Statement.{statement}
 use Rattle.pair.proofs.Pair.find_in_block.Tie as tie
@@ -24,14 +24,14 @@ returns c =
     let start = c .before .before .before .before .before .before .before .before .before in
     block-kept (start .args .self) _ (start .args .which) (start .args .size) (start .args .mode) _ (start .pre) (c .enum-told .given .1)
 
-lower-requires : tie.Need-lower-requires
-lower-requires c κs =
+take-tabled-requires : tie.Need-take-tabled-requires
+take-tabled-requires c κs =
     let match-keys2 = c .before in
     let part = match-keys2 .before in
     let find-size = part .before in
     let arena = find-size .before in
     let start = arena .before .before .before .before .before in
-    block-lowers (start .args .self) _ (start .args .which) (start .args .size) (start .args .mode) _ (start .pre)
+    block-takes (start .args .self) _ (start .args .which) (start .args .size) (start .args .mode) _ (start .pre)
     _ (arena .arena .ensures) _ (find-size .find-size .ensures) (match-keys2 .match .keys2) _ (part .part .ensures)
 
 same-length : tie.Need-same-length
@@ -39,14 +39,14 @@ same-length c = search needs
 
 returns-2 : tie.Need-returns-2
 returns-2 c =
-    let lower = c .before .before in
-    let match-keys2 = lower .before .before in
+    let taken = c .before .before in
+    let match-keys2 = taken .before .before in
     let part = match-keys2 .before in
     let find-size = part .before in
     let arena = find-size .before in
     let start = arena .before .before .before .before .before in
     block-0 (start .args .self) _ (start .args .which) (start .args .size) (start .args .mode) _ (start .pre)
-    _ (arena .arena .ensures) _ (find-size .find-size .ensures) (match-keys2 .match .keys2) _ (part .part .ensures) _ _ (lower .lower .ensures)
+    _ (arena .arena .ensures) _ (find-size .find-size .ensures) (match-keys2 .match .keys2) _ (part .part .ensures) _ _ (taken .take-tabled .ensures)
 
 pub find-in-block-spec : {M : Type 1} → statement M
 find-in-block-spec =
@@ -57,6 +57,6 @@ find-in-block-spec =
     part-requires
     enum-told
     returns
-    lower-requires
+    take-tabled-requires
     same-length
     returns-2)

@@ -24,8 +24,8 @@ returns c =
     let start = c .before .before .before .before .before .before .before .before .before in
     list-kept (start .args .self) _ (start .args .which) (start .args .size) (start .args .mode) _ (start .pre) (c .enum-told .given .1)
 
-take-requires : tie.Need-take-requires
-take-requires c κs =
+take-listed-requires : tie.Need-take-listed-requires
+take-listed-requires c κs =
     let match-keys2 = c .before in
     let part = match-keys2 .before in
     let find-size = part .before in
@@ -39,14 +39,14 @@ same-length c = search needs
 
 returns-2 : tie.Need-returns-2
 returns-2 c =
-    let take = c .before .before in
-    let match-keys2 = take .before .before in
+    let taken = c .before .before in
+    let match-keys2 = taken .before .before in
     let part = match-keys2 .before in
     let find-size = part .before in
     let arena = find-size .before in
     let start = arena .before .before .before .before .before in
     list-0 (start .args .self) _ (start .args .which) (start .args .size) (start .args .mode) _ (start .pre)
-    _ (arena .arena .ensures) _ (find-size .find-size .ensures) (match-keys2 .match .keys2) _ (part .part .ensures) _ _ (take .take .ensures)
+    _ (arena .arena .ensures) _ (find-size .find-size .ensures) (match-keys2 .match .keys2) _ (part .part .ensures) _ _ (taken .take-listed .ensures)
 
 pub find-in-list-spec : {M : Type 1} → statement M
 find-in-list-spec =
@@ -57,6 +57,6 @@ find-in-list-spec =
     part-requires
     enum-told
     returns
-    take-requires
+    take-listed-requires
     same-length
     returns-2)

@@ -1,8 +1,8 @@
--- `lower` meets its contract. Assumes nothing.
-use Rattle.pair.proofs.LandEdits.{lower-room, lower-done}
+-- `take_tabled` meets its contract. Assumes nothing.
+use Rattle.pair.proofs.LandEdits.{take-tabled-room, take-tabled-done}
 use borrow.Author.Needs.{needs}
-use Rattle.pair.proofs.edits.lower.Statement.{statement}
-use Rattle.pair.proofs.edits.lower.Tie as tie
+use Rattle.pair.proofs.edits.take_tabled.Statement.{statement}
+use Rattle.pair.proofs.edits.take_tabled.Tie as tie
 
 cut-at-requires : tie.Need-cut-at-requires
 cut-at-requires c κs = search needs
@@ -13,7 +13,7 @@ size-requires c κs = search needs
 minus-requires : tie.Need-minus-requires
 minus-requires c κs =
     let start = c .before .before .before .before .before .before in
-    lower-room _ _ _ (start .args .range) (start .pre) _ (c .size .ensures)
+    take-tabled-room _ _ _ (start .args .range) (start .pre) _ (c .size .ensures)
 
 close-requires : tie.Need-close-requires
 close-requires c κs = search needs
@@ -27,9 +27,9 @@ returns c =
     let size = minus .before in
     let cut = size .before .before .before in
     let start = cut .before .before .before in
-    lower-done _ _ _ (start .args .range) (start .pre) _ _ (cut .cut-at .ensures) _ (size .size .ensures) _ (minus .minus .ensures) _ (c .close .ensures)
+    take-tabled-done _ _ _ (start .args .range) (start .pre) _ _ (cut .cut-at .ensures) _ (size .size .ensures) _ (minus .minus .ensures) _ (c .close .ensures)
 
-pub lower-spec : {M : Type 1} → statement M
-lower-spec =
+pub take-tabled-spec : {M : Type 1} → statement M
+take-tabled-spec =
     tie.close
     (tie.spec cut-at-requires size-requires minus-requires close-requires same-length returns)
