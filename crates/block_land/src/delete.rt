@@ -35,7 +35,7 @@ impl BlockLand {
         }
     }
 
-    // PartOf a range out that is wholly free. The range returned is the isolated one that contained it before.
+    // Takes a range out that is wholly free. The range returned is the isolated one that contained it before.
     pub fn delete(self, nodes: &mut [u64], range: Range) -> Changed
         ensures { λ r. ⌜ (r ≡ changed (deleted self (now (nodes .entry)) range)) × (now (nodes .exit) ≡ deleted self (now (nodes .entry)) range .words) ⌝ }
     {

@@ -34,7 +34,7 @@ impl ListLand {
         }
     }
 
-    // PartOf a range out whose bytes are all free. The range returned is the isolated one that contained it.
+    // Takes a range out whose bytes are all free. The range returned is the isolated one that contained it.
     pub fn delete(self, words: &mut [u64], range: Range) -> Changed
         ensures { λ r. ⌜ (r ≡ changed (deleted self (now (words .entry)) range)) × (now (words .exit) ≡ deleted self (now (words .entry)) range .words) ⌝ }
     {

@@ -146,7 +146,7 @@ impl Pair {
         self.delete_good(words, nodes, range, spot, entry)
     }
 
-    // PartOf a range out of the land that holds all of it. The range returned is the isolated one of that land that
+    // Takes a range out of the land that holds all of it. The range returned is the isolated one of that land that
     // contained it before. 7 if its bytes are all free, in both lands.
     pub fn delete(self, words: &mut [u64], nodes: &mut [u64], range: Range) -> Changed
         ensures { λ r. ⌜ (r ≡ changed (deleted self (now (words .entry)) (now (nodes .entry)) range)) × (now (words .exit) ≡ deleted self (now (words .entry)) (now (nodes .entry)) range .words .list) × (now (nodes .exit) ≡ deleted self (now (words .entry)) (now (nodes .entry)) range .words .block) ⌝ }

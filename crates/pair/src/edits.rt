@@ -10,7 +10,7 @@ ghost use Rattle.block_words.specs.Words.{fill};
 ghost use Rattle.block_land.specs.Layout as block-layout;
 ghost use Rattle.pair.specs.inner.Editing.{listLess, tableLess, TakingListed, TakingTabled};
 
-// PartOf a part out of the range at a spot of a sound list.
+// Takes a part out of the range at a spot of a sound list.
 pub(crate) fn take_listed(list: ListLand, words: &mut [u64], range: Range, spot: Spot) -> ListLand
     requires { ⌜ TakingListed list (now words) range spot ⌝ }
     ensures { λ r. ⌜ (r ≡ list-layout.closed list (listLess list (now (words .entry)) range)) × (now (words .exit) ≡ lay (list-layout.base list) (listLess list (now (words .entry)) range) (now (words .entry))) ⌝ }
@@ -19,7 +19,7 @@ pub(crate) fn take_listed(list: ListLand, words: &mut [u64], range: Range, spot:
     list.close(chain.head, chain.ranges, chain.bytes)
 }
 
-// PartOf a part out of pair i of a sound table, where there is room for what is left.
+// Takes a part out of pair i of a sound table, where there is room for what is left.
 pub(crate) fn take_tabled(block: BlockLand, nodes: &mut [u64], i: usize, range: Range) -> BlockLand
     requires { ⌜ TakingTabled block (now nodes) i range ⌝ }
     ensures { λ r. ⌜ (r ≡ block-layout.closed block (tableLess block (now (nodes .entry)) range)) × (now (nodes .exit) ≡ fill (tableLess block (now (nodes .entry)) range) (now (nodes .entry))) ⌝ }

@@ -23,7 +23,7 @@ use Rattle.list_words.specs.inner.Surveys.{Ready, spot, startAt, onward, Near, 
 use Rattle.list_words.specs.declared.Met.{Met}
 use Rattle.list_words.specs.declared.Spot.{Spot}
 use Rattle.list_words.specs.declared.cursor.Cursor.{Cursor}
-use Rattle.list_words.specs.declared.seeks.SoughtBeside as list
+use Rattle.list_words.specs.declared.seeks.Sought as list
 use Rattle.list_words.proofs.Met.{the-type}
 use Rattle.list_words.proofs.Going.{along-near, along-less}
 use Rattle.list_words.proofs.Seeking.{Seeking, seek-start, seek-broken, seek-order, seek-at, seek-next, seek-end}
@@ -103,7 +103,7 @@ pub ruleset pursuits = (pursue-start, pursue-end, pursue-broken, pursue-near, pu
 module _ (a : Arena) (ws : List ℕ) (ready : Ready a (length ws)) (head : ℕ) (vs : List ℕ) (n : ℕ) (aim : Aim) (stay : keepsFirst aim ≡ true) where
   by-goal : (g : Goal) → g ≡ goalOf aim → (q : SoughtBeside) → SeeksBeside a ws head vs n (sought g none-range) q → SeeksBeside a ws head vs n (kept-of aim) q
   by-goal g eg SoughtBeside.Broken i = i
-  by-goal g eg (SoughtBeside.At s c j) i = (first-kept a ws ready head aim stay g eg (list.SoughtBeside.At s c) (i .0), i .1)
+  by-goal g eg (SoughtBeside.At s c j) i = (first-kept a ws ready head aim stay g eg (list.Sought.At s c) (i .0), i .1)
 
   module _ (x y : Addr) (z : Size) (q : SoughtBeside) (i : SeeksBeside a ws head vs n (sought (record { reach = x; from = y; size = z }) none-range) q) where
     abbrev Kept : Type 0
