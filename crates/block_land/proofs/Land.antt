@@ -51,6 +51,7 @@ block-land = record {
   whole = λ s. Look.Sound s;
   number = lookNumber;
   look = lookOf;
+  aimed = λ h aim. aim;
   keep = entryOf;
   here = λ s. s .here;
   change = λ h n r. record { land = h; answer = n; range = r };
@@ -66,6 +67,7 @@ block-land = record {
   number-whole = λ s. refl;
   same = same;
   looks = looks;
+  aims-from = λ h x. refl;
   keeps = λ aim lo hi rs z a. entry-here aim rs ∙ picked-by aim none rs;
   handle-back = λ h ws g s. handle-back h ws (fine h ws g s);
   words-back = λ h ws g s. words-back h ws (fine h ws g s);

@@ -18,7 +18,7 @@ use Rattle.list_words.proofs.Keeping.{SpotOf, kept-placed}
 use Rattle.list_words.proofs.Laid.{lay-laid}
 use Rattle.list_land.specs.Calls.{does}
 use Rattle.list_land.specs.Layout.{base, setUp, walkOf, sound, readOf, layout}
-use Rattle.list_land.specs.inner.Parts.{arenaIn, lookNumber, lookOf}
+use Rattle.list_land.specs.inner.Parts.{arenaIn, lookNumber, aimIn, lookOf}
 use Rattle.list_land.specs.declared.Changed.{Changed}
 use Rattle.list_land.specs.declared.Found.{Found}
 use Rattle.list_land.specs.declared.ListLand.{ListLand}
@@ -35,7 +35,7 @@ unfolding readOf
 reads-as h ws = refl
 
 pub looks : (h : ListLand) (ws : List ℕ) (aim : Aim) →
-    lookOf h ws aim ≡ cond (setUp h ws) (cond (sound h ws) (Look.Sound (kept-of aim (walkOf h ws .met))) Look.Damaged) Look.BadSetUp
+    lookOf h ws aim ≡ cond (setUp h ws) (cond (sound h ws) (Look.Sound (kept-of (aimIn h aim) (walkOf h ws .met))) Look.Damaged) Look.BadSetUp
 unfolding lookOf
 looks h ws aim = refl
 
@@ -58,6 +58,7 @@ list-land = record {
   whole = λ s. Look.Sound s;
   number = lookNumber;
   look = lookOf;
+  aimed = aimIn;
   keep = kept-of;
   here = λ s. s .here;
   change = λ h n r. record { land = h; answer = n; range = r };
@@ -73,6 +74,7 @@ list-land = record {
   number-whole = λ s. refl;
   same = same;
   looks = looks;
+  aims-from = λ h x. refl;
   keeps = λ aim lo hi rs z a. placed-here rs (pick-by aim none rs) (kept-of aim rs) (kept-placed aim lo hi rs z a);
   handle-back = λ h ws g s. handle-back h ws (walkOf h ws .met) (fine h ws g s) refl;
   words-back = λ h ws g s. lay-laid (base h) (walkOf h ws .met) ws (fine h ws g s .laid);

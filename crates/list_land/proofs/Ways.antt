@@ -9,6 +9,7 @@ use types.Run.{OneOf}
 use denote.Enum.Declared.{tagOf}
 use borrow.Author.Tests.{eq-eqb, ne-eqb}
 use Rattle.units.specs.Rules.{goodAlign, arenaCheck, goodArena, setUpOf}
+use Rattle.units.specs.inner.Aims.{aimOf}
 use Rattle.units.specs.Words.{wordNumber, rangeOf, addr}
 use Rattle.units.specs.declared.Addr.{Addr}
 use Rattle.units.specs.declared.Align.{Align}
@@ -28,7 +29,7 @@ use Rattle.list_words.specs.declared.Spot.{Spot}
 use Rattle.list_words.specs.declared.Verdict.{Verdict}
 use Rattle.list_land.specs.Calls.{newLand, openedOf}
 use Rattle.list_land.specs.Layout.{base, limit, align, setUp, walkOf, sound}
-use Rattle.list_land.specs.inner.Parts.{arenaIn, chainIn, lookOf, Looked, refusedBy, foundNone}
+use Rattle.list_land.specs.inner.Parts.{arenaIn, chainIn, aimIn, lookOf, Looked, refusedBy, foundNone}
 use Rattle.list_land.specs.declared.ListLand.{ListLand}
 use Rattle.list_land.specs.declared.Look.{Look}
 use Rattle.list_land.proofs.Sound.{placed}
@@ -85,22 +86,22 @@ module _ (h : ListLand) (ws : List ℕ) (aim : Aim) (r : SetUp) (e : r ≡ setUp
   unfolding lookOf
   look-bad f = rw (set-up-false (setUp h ws) r e f)
 
-  module _ (f : r ≡ SetUp.Good) (a : Arena) (ea : a ≡ arenaIn h) where
-    module _ (c : Chain) (ec : c ≡ chainIn h) (v : Verdict) (ev : v ≡ surveyOf a ws c aim) where
-      seen : v ≡ cond (sound h ws) (Verdict.Sound (kept-of aim (walkOf h ws .met))) Verdict.Damaged
+  module _ (f : r ≡ SetUp.Good) (a : Arena) (ea : a ≡ arenaIn h) (x : Aim) (ex : x ≡ aimOf a aim) where
+    module _ (c : Chain) (ec : c ≡ chainIn h) (v : Verdict) (ev : v ≡ surveyOf a ws c x) where
+      seen : v ≡ cond (sound h ws) (Verdict.Sound (kept-of (aimIn h aim) (walkOf h ws .met))) Verdict.Damaged
       unfolding surveyOf sound
-      seen = ev ∙ ap₂ (λ (x : Arena) (y : Chain). surveyOf x ws y aim) ea ec
+      seen = ev ∙ ap (λ (y : Aim). surveyOf a ws c y) ex ∙ ap₂ (λ (y : Arena) (z : Chain). surveyOf y ws z (aimOf y aim)) ea ec
 
       pub survey-damaged : v ≡ Verdict.Damaged → sound h ws ≡ false
       survey-damaged g =
           by (sound h ws)
-          (λ t. let q : v ≡ Verdict.Sound (kept-of aim (walkOf h ws .met)) = rw t at seen in let z : _≡_ {A = ℕ} 0 1 = cc in absurd (omega arith))
+          (λ t. let q : v ≡ Verdict.Sound (kept-of (aimIn h aim) (walkOf h ws .met)) = rw t at seen in let z : _≡_ {A = ℕ} 0 1 = cc in absurd (omega arith))
           (λ t. t)
 
-      pub survey-kept : (s : Spot) → v ≡ Verdict.Sound s → Looked h ws aim s
+      pub survey-kept : (s : Spot) → v ≡ Verdict.Sound s → Looked h ws (aimIn h aim) s
       survey-kept s g =
           by (sound h ws)
-          (λ t. let q : v ≡ Verdict.Sound (kept-of aim (walkOf h ws .met)) = rw t at seen in record { good = set-up-true (setUp h ws) r e f; whole = t; kept = cc })
+          (λ t. let q : v ≡ Verdict.Sound (kept-of (aimIn h aim) (walkOf h ws .met)) = rw t at seen in record { good = set-up-true (setUp h ws) r e f; whole = t; kept = cc })
           (λ t. let q : v ≡ Verdict.Damaged = rw t at seen in let z : _≡_ {A = ℕ} 0 1 = cc in absurd (omega arith))
 
       pub look-damaged : v ≡ Verdict.Damaged → Look.Damaged ≡ lookOf h ws aim
@@ -111,7 +112,7 @@ module _ (h : ListLand) (ws : List ℕ) (aim : Aim) (r : SetUp) (e : r ≡ setUp
       unfolding lookOf
       look-sound s g = let k = survey-kept s g in rw (k .good, k .whole) (ap (λ (x : Spot). Look.Sound x) (k .kept))
 
-pub ruleset look-ways = (good-align, good-ready, look-bad, look-damaged, look-sound)
+pub ruleset look-ways = (good-align, good-positive, good-ready, look-bad, look-damaged, look-sound)
 
 -- THE OPENING
 module _ (b l a : ℕ) (ws : List ℕ) (h : ListLand) (eh : h ≡ newLand b l a) (r : SetUp) (e : r ≡ setUpOf (setUp h ws)) where

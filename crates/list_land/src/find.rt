@@ -1,21 +1,18 @@
 // The three finds: the range chosen, the part of it that is found, and its removal.
 use crate::Found;
 use crate::ListLand;
+use crate::Look;
 use list_words::Spot;
-use list_words::Verdict;
 use units::Aim;
 use units::Mode;
 use units::Range;
-use units::SetUp;
 use units::Size;
 use units::SizeCheck;
 use units::Which;
-ghost use mathlib.Core.Bool.{true};
 ghost use mathlib.Core.Path.{_≡_};
-ghost use Rattle.model.specs.Calls.{good-size};
+ghost use Rattle.units.specs.declared.aims.Aim.{Aim as Aim·};
 ghost use Rattle.list_land.specs.Calls.{foundOf, found};
-ghost use Rattle.list_land.specs.Layout.{arenaOf};
-ghost use Rattle.list_land.specs.inner.Parts.{Looked, findAim, foundNone};
+ghost use Rattle.list_land.specs.inner.Parts.{Looked, aimIn, foundNone};
 
 fn none_found(land: ListLand, answer: u64) -> Found
     ensures { λ r. ⌜ r ≡ foundNone land answer ⌝ }
@@ -29,17 +26,19 @@ fn none_found(land: ListLand, answer: u64) -> Found
 }
 
 impl ListLand {
-    // A find of a good size in a sound list, at the range chosen.
+    // A find in a sound list, at the range chosen: 4, 2, and the removal.
     fn find_at(self, words: &mut [u64], which: Which, size: Size, mode: Mode, spot: Spot) -> Found
-        requires { ⌜ Looked self (now words) (findAim self which size) spot ⌝ }
-        requires { ⌜ good-size (arenaOf self) which (size .0) ≡ true ⌝ }
+        requires { ⌜ Looked self (now words) (aimIn self (Aim·.Find which size)) spot ⌝ }
         ensures { λ r. ⌜ (r ≡ foundOf (found self (now (words .entry)) which (size .0) mode)) × (now (words .exit) ≡ found self (now (words .entry)) which (size .0) mode .words) ⌝ }
     {
+        let arena = self.good_arena();
+        let SizeCheck::Good = arena.check_find(which, size) else {
+            return none_found(self, 4);
+        };
         let here = spot.here;
         if here.base.is_zero() {
             return none_found(self, 2);
         }
-        let arena = self.good_arena();
         let part = finds::part(which, mode, arena.find_size(size), here);
         if let Mode::None = mode {
             return Found {
@@ -62,20 +61,14 @@ impl ListLand {
     pub fn find(self, words: &mut [u64], which: Which, size: Size, mode: Mode) -> Found
         ensures { λ r. ⌜ (r ≡ foundOf (found self (now (words .entry)) which (size .0) mode)) × (now (words .exit) ≡ found self (now (words .entry)) which (size .0) mode .words) ⌝ }
     {
-        let SetUp::Good = self.set_up(words) else {
-            return none_found(self, 5);
-        };
-        let arena = self.good_arena();
-        let check = arena.check_find(which, size);
-        let aim = Aim::of_find(check, which, arena.find_size(size));
-        let Verdict::Sound(s) = list_words::survey(arena, words, self.chain(), aim) else {
-            return none_found(self, 6);
-        };
-        let spot = s;
-        let SizeCheck::Good = check else {
-            return none_found(self, 4);
-        };
-        self.find_at(words, which, size, mode, spot)
+        match self.look(words, Aim::Find(which, size)) {
+            Look::BadSetUp => none_found(self, 5),
+            Look::Damaged => none_found(self, 6),
+            Look::Sound(s) => {
+                let spot = s;
+                self.find_at(words, which, size, mode, spot)
+            }
+        }
     }
 
     // The isolated range of at least the size with the lowest base.

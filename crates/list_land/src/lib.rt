@@ -135,14 +135,15 @@ impl ListLand {
         }
     }
 
-    // The one walk of a call.
+    // The one walk of a call, for what it asks.
     pub fn look(self, words: &[u64], aim: Aim) -> Look
         ensures { λ r. ⌜ r ≡ lookOf self (now (words .entry)) aim ⌝ }
     {
         let SetUp::Good = self.set_up(words) else {
             return Look::BadSetUp;
         };
-        match list_words::survey(self.good_arena(), words, self.chain(), aim) {
+        let arena = self.good_arena();
+        match list_words::survey(arena, words, self.chain(), arena.aim_of(aim)) {
             Verdict::Damaged => Look::Damaged,
             Verdict::Sound(spot) => Look::Sound(spot),
         }

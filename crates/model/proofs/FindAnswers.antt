@@ -9,7 +9,7 @@ use lib.Dec.{eqb}
 use lib.ListN.{length}
 use types.Run.{OneOf}
 use denote.Enum.Declared.{tagOf}
-use Rattle.units.specs.inner.Aims.{none-range, findAim}
+use Rattle.units.specs.inner.Aims.{none-range, findAim, aimOf}
 use Rattle.units.specs.Rules.{findCheck, findSize, setUpOf}
 use Rattle.units.specs.declared.Mode.{Mode}
 use Rattle.units.specs.declared.Range as units
@@ -35,7 +35,7 @@ use Rattle.model.proofs.Chosen.{Choice, none-chosen, some-chosen}
 use Rattle.model.proofs.Counting.{room-for-fewer, cut-end}
 use Rattle.model.proofs.Finding.{find-none, find-takes}
 use Rattle.model.proofs.Land.{Land}
-use Rattle.model.proofs.Looking.{Kept, Finds, bad-is-5, damaged-is-6, refused-find, fine, is-kept, mem-above, step-refused, done-find}
+use Rattle.model.proofs.Looking.{Kept, Finds, bad-is-5, damaged-is-6, saw-5, saw-6, refused-find, fine, is-kept, mem-above, step-refused, done-find}
 use Rattle.model.proofs.Parts.{PartOf, mem-stands, part-takes}
 use Rattle.model.proofs.Requests.{find-size-rules, size-refused}
 
@@ -44,12 +44,21 @@ module _ {H L S C F : Type 0} (I : Land H L S C F) (h : H) (ws : List ℕ) where
   abbrev pub find-aim : Which → Size → Aim
   find-aim w n = Aim.Find w (record { 0 = find-size (I .layout .arena h ws) (n .0) })
 
+  -- 5 and 6, from the two tests
   module _ (c : Call) where
     pub find-5 : (r : SetUp) → r ≡ setUpOf (I .set-up h ws) → r ≡ SetUp.Bad → (v : F) → v ≡ I .find-made h 5 none-range none-range → Finds I v ws (I .does c h ws)
     find-5 r e f v k = refused-find I h ws c 5 (bad-is-5 I h ws c (set-up-false (I .set-up h ws) r e f)) v k ws refl
 
     pub find-6 : I .set-up h ws ≡ true → I .sound h ws ≡ false → (v : F) → v ≡ I .find-made h 6 none-range none-range → Finds I v ws (I .does c h ws)
     find-6 g s v k = refused-find I h ws c 6 (damaged-is-6 I h ws c g s) v k ws refl
+
+  -- 5 and 6, from a look
+  module _ (aim : Aim) (v : L) (e : v ≡ I .look h ws aim) (c : Call) where
+    pub looked-5 : v ≡ I .bad → (r : F) → r ≡ I .find-made h 5 none-range none-range → Finds I r ws (I .does c h ws)
+    looked-5 f r k = refused-find I h ws c 5 (saw-5 I h ws aim v e c f) r k ws refl
+
+    pub looked-6 : v ≡ I .damaged → (r : F) → r ≡ I .find-made h 6 none-range none-range → Finds I r ws (I .does c h ws)
+    looked-6 f r k = refused-find I h ws c 6 (saw-6 I h ws aim v e c f) r k ws refl
 
   -- the size that the code works with is the one that the definition names
   size-is : (n : Size) (a : Arena) → a ≡ I .arena-in h → (m : Size) → m .0 ≡ findSize (a .align .0) (n .0) → m .0 ≡ find-size (I .layout .arena h ws) (n .0)
@@ -65,11 +74,18 @@ module _ {H L S C F : Type 0} (I : Land H L S C F) (h : H) (ws : List ℕ) where
         let z = size-refused b w (n .0) (size-bad b a (ea ∙ I .arena-is h ws) w (n .0) r er t) in
         refused-find I h ws (find w (n .0) mode) 4 (step-refused I h ws aim s k (find w (n .0) mode) 4 refl (rw z)) v e ws refl
 
-    pub find-ready : r ≡ SizeCheck.Good → (m : Size) → m .0 ≡ findSize (a .align .0) (n .0) → aim ≡ findAim r w m →
-        Kept I h ws (find-aim w n) s × (good-size (I .layout .arena h ws) w (n .0) ≡ true)
-    find-ready g m em f =
-        let e : aim ≡ find-aim w n = f ∙ ap (λ (x : SizeCheck). findAim x w m) g ∙ ap (λ (x : ℕ). Aim.Find w (record { 0 = x })) (size-is n a ea m em) in
-        (rw e at k, size-good (I .layout .arena h ws) a (ea ∙ I .arena-is h ws) w (n .0) r er g)
+    module _ (g : r ≡ SizeCheck.Good) where
+      pub find-ready : (m : Size) → m .0 ≡ findSize (a .align .0) (n .0) → aim ≡ findAim r w m →
+          Kept I h ws (find-aim w n) s × (good-size (I .layout .arena h ws) w (n .0) ≡ true)
+      find-ready m em f =
+          let e : aim ≡ find-aim w n = f ∙ ap (λ (x : SizeCheck). findAim x w m) g ∙ ap (λ (x : ℕ). Aim.Find w (record { 0 = x })) (size-is n a ea m em) in
+          (rw e at k, size-good (I .layout .arena h ws) a (ea ∙ I .arena-is h ws) w (n .0) r er g)
+
+      -- of what a find asks for
+      pub find-asked : aim ≡ aimOf (I .arena-in h) (Aim.Find w n) → Kept I h ws (find-aim w n) s × (good-size (I .layout .arena h ws) w (n .0) ≡ true)
+      find-asked f =
+          let e : aim ≡ aimOf a (Aim.Find w n) = f ∙ ap (λ (x : Arena). aimOf x (Aim.Find w n)) (sym ea) in
+          find-ready (record { 0 = findSize (a .align .0) (n .0) }) refl (e ∙ ap (λ (x : SizeCheck). findAim x w (record { 0 = findSize (a .align .0) (n .0) })) (sym er))
 
   -- WHAT WAS KEPT IS THE RANGE CHOSEN
   module _ (w : Which) (n : Size) (s : S) (k : Kept I h ws (find-aim w n) s) where

@@ -4,6 +4,7 @@ use mathlib.Core.Bool.{Bool, true, cond}
 use mathlib.Core.List.{List}
 use mathlib.Core.Option.{none}
 use mathlib.Core.Path.{_≡_}
+use Rattle.units.specs.declared.Addr.{Addr}
 use Rattle.units.specs.declared.Range as units
 use Rattle.units.specs.declared.aims.Aim.{Aim}
 use Rattle.units.specs.declared.rules.Arena as units-arena
@@ -30,7 +31,9 @@ pub record Land (H L S C F : Type 0) : Type 1 where
   pub damaged : L
   pub whole : S → L
   pub number : L → ℕ
+  -- a look at what a call asks for, and what is looked for
   pub look : H → List ℕ → Aim → L
+  pub aimed : H → Aim → Aim
   -- what an aim keeps of a list, and the range of it
   pub keep : Aim → List Range → S
   pub here : S → units.Range
@@ -51,7 +54,8 @@ pub record Land (H L S C F : Type 0) : Type 1 where
   pub number-whole : (s : S) → number (whole s) ≡ 0
   pub same : (s t : S) → whole s ≡ whole t → s ≡ t
   pub looks : (h : H) (ws : List ℕ) (aim : Aim) →
-      look h ws aim ≡ cond (set-up h ws) (cond (sound h ws) (whole (keep aim (ranges h ws))) damaged) bad
+      look h ws aim ≡ cond (set-up h ws) (cond (sound h ws) (whole (keep (aimed h aim) (ranges h ws))) damaged) bad
+  pub aims-from : (h : H) (x : Addr) → aimed h (Aim.From x) ≡ Aim.From x
   pub keeps : (aim : Aim) (lo hi : ℕ) (rs : List Range) → 0 < lo → Apart lo hi rs → here (keep aim rs) ≡ here-of (pick-by aim none rs)
   -- a handle and words that are read are those that close what is read
   pub handle-back : (h : H) (ws : List ℕ) → set-up h ws ≡ true → sound h ws ≡ true → layout .close h (ranges h ws) ≡ h

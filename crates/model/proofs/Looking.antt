@@ -72,7 +72,7 @@ module _ {H L S C F : Type 0} (I : Land H L S C F) where
   number-is true true x = I .number-whole x
 
   pub look-said : (h : H) (ws : List ℕ) (aim : Aim) → I .number (I .look h ws aim) ≡ said (I .set-up h ws) (I .sound h ws)
-  look-said h ws aim = ap (I .number) (I .looks h ws aim) ∙ number-is (I .set-up h ws) (I .sound h ws) (I .keep aim (I .ranges h ws))
+  look-said h ws aim = ap (I .number) (I .looks h ws aim) ∙ number-is (I .set-up h ws) (I .sound h ws) (I .keep (I .aimed h aim) (I .ranges h ws))
 
   -- the number of a look is the one that the handle and the words are read with
   pub look-number : (h : H) (ws : List ℕ) (aim : Aim) → I .number (I .look h ws aim) ≡ fault-number (I .layout .read h ws)
@@ -112,11 +112,11 @@ module _ {H L S C F : Type 0} (I : Land H L S C F) where
     told : I .number v ≡ said (I .set-up h ws) (I .sound h ws)
     told = ap (I .number) e ∙ look-said h ws aim
 
-    pub saw : (s : S) → v ≡ I .whole s → Kept h ws aim s
+    pub saw : (s : S) → v ≡ I .whole s → Kept h ws (I .aimed h aim) s
     saw s f =
         let t = said-0 (I .set-up h ws) (I .sound h ws) (sym told ∙ ap (I .number) f ∙ I .number-whole s) in
-        let u : v ≡ I .whole (I .keep aim (I .ranges h ws)) = e ∙ I .looks h ws aim ∙ rw (t .0, t .1) in
-        record { good = t .0; whole = t .1; kept = I .same s (I .keep aim (I .ranges h ws)) (sym f ∙ u) }
+        let u : v ≡ I .whole (I .keep (I .aimed h aim) (I .ranges h ws)) = e ∙ I .looks h ws aim ∙ rw (t .0, t .1) in
+        record { good = t .0; whole = t .1; kept = I .same s (I .keep (I .aimed h aim) (I .ranges h ws)) (sym f ∙ u) }
 
     module _ (c : Call) where
       pub saw-5 : v ≡ I .bad → refuses h ws c 5

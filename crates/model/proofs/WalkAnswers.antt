@@ -32,7 +32,7 @@ module _ {H L S C F : Type 0} (I : Land H L S C F) (h : H) (ws : List ℕ) where
 
     module _ (s : S) (f : v ≡ I .whole s) (t : Bool) (et : t ≡ eqb (I .here s .base .0) 0) where
       k : Kept I h ws (Aim.From x) s
-      k = saw I h ws (Aim.From x) v e s f
+      k = rw (I .aims-from h x) at (saw I h ws (Aim.From x) v e s f)
 
       abbrev rs : List Range
       rs = I .ranges h ws

@@ -3,6 +3,7 @@ use Prim.Native.Nat.{ℕ}
 use mathlib.Core.Bool.{cond}
 use mathlib.Core.List.{List}
 use Rattle.units.specs.Rules.{findSize}
+use Rattle.units.specs.inner.Aims.{aimOf}
 use Rattle.units.specs.Words.{rangeOf}
 use Rattle.units.specs.declared.Addr.{Addr}
 use Rattle.units.specs.declared.Range.{Range}
@@ -32,10 +33,14 @@ lookNumber Look.BadSetUp = 5
 lookNumber Look.Damaged = 6
 lookNumber (Look.Sound s) = 0
 
+-- What a call looks for.
+abbrev pub aimIn : ListLand → Aim → Aim
+aimIn h aim = aimOf (arenaIn h) aim
+
 -- 5, then 6, then what the aim keeps of the list.
 unfoldable pub lookOf : ListLand → List ℕ → Aim → Look
 lookOf h ws aim =
-    cond (setUp h ws) (cond (sound h ws) (Look.Sound (kept-of aim (walkOf h ws .met))) Look.Damaged) Look.BadSetUp
+    cond (setUp h ws) (cond (sound h ws) (Look.Sound (kept-of (aimIn h aim) (walkOf h ws .met))) Look.Damaged) Look.BadSetUp
 
 abbrev pub closedWith : ListLand → Addr → ℕ → Size → ListLand
 closedWith h head n s = record { base = h .base; limit = h .limit; align = h .align; head = head; ranges = n; bytes = s }

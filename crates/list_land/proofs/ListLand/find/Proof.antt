@@ -1,146 +1,71 @@
--- `ListLand::find` meets its contract: 5, 6, 4, and then the range chosen. Assumes nothing.
-use borrow.Author.Needs.{needs}
+-- `ListLand::find` meets its contract: 5, 6, and then the range chosen. Assumes nothing.
 use Rattle.model.specs.Calls.{find}
-use Rattle.model.proofs.FindAnswers.{find-5, find-6, find-4, find-ready}
-use Rattle.units.proofs.Cases.{set-up-true}
+use Rattle.model.proofs.FindAnswers.{looked-5, looked-6}
+use Rattle.model.proofs.Looking.{saw}
 use Rattle.list_land.proofs.Land.{list-land}
-use Rattle.list_land.proofs.Ways.{good-ways, survey-damaged, survey-kept}
+use borrow.Author.Needs.{needs}
 use Rattle.list_land.proofs.ListLand.find.Statement.{statement}
 use Rattle.list_land.proofs.ListLand.find.Tie as tie
 
-set-up-requires : tie.Need-set-up-requires
-set-up-requires c κs = search needs
+look-requires : tie.Need-look-requires
+look-requires c κs = search needs
 
 enum-told : tie.Need-enum-told
 enum-told c = search needs
 
+none-found-requires : tie.Need-none-found-requires
+none-found-requires c κs = search needs
+
 enum-told-2 : tie.Need-enum-told-2
 enum-told-2 c = search needs
 
-none-found-requires : tie.Need-none-found-requires
-none-found-requires c κs = search needs
+none-found-requires-2 : tie.Need-none-found-requires-2
+none-found-requires-2 c κs = search needs
+
+enum-known-s : tie.Need-enum-known-s
+enum-known-s c = search needs
+
+find-at-requires : tie.Need-find-at-requires
+find-at-requires c κs = search (saw list-land)
 
 same-length : tie.Need-same-length
 same-length c = search needs
 
 returns : tie.Need-returns
 returns c =
-    let up = c .before .before .before in
-    let a = up .before .before .before .args in
-    find-5 list-land _ _ (find (a .which) (a .size .0) (a .mode)) _ (up .set-up .ensures) (c .before .enum-told2 .given .1) _ (c .none-found .ensures)
-
-good-arena-requires : tie.Need-good-arena-requires
-good-arena-requires c κs = search good-ways
-
-check-find-requires : tie.Need-check-find-requires
-check-find-requires c κs = search good-ways
-
-find-size-requires : tie.Need-find-size-requires
-find-size-requires c κs = search needs
-
-of-find-requires : tie.Need-of-find-requires
-of-find-requires c κs = search needs
-
-chain-requires : tie.Need-chain-requires
-chain-requires c κs = search needs
-
-survey-requires : tie.Need-survey-requires
-survey-requires c κs = search good-ways
-
-enum-known-s : tie.Need-enum-known-s
-enum-known-s c = search needs
-
-enum-told-3 : tie.Need-enum-told-3
-enum-told-3 c = search needs
-
-none-found-requires-2 : tie.Need-none-found-requires-2
-none-found-requires-2 c κs = search needs
+    let look = c .before .before .before in
+    let a = look .before .before .before .args in
+    looked-5 list-land _ _ _ _ (look .look .ensures) (find (a .which) (a .size .0) (a .mode)) (c .before .enum-told .given .1) _ (c .none-found .ensures)
 
 same-length-2 : tie.Need-same-length-2
 same-length-2 c = search needs
 
 returns-2 : tie.Need-returns-2
 returns-2 c =
-    let survey = c .before .before .before in
-    let chain = survey .before in
-    let arena = chain .before .before .before .before .before in
-    let good = arena .before in
-    let up = good .before .before in
-    let a = up .before .before .before .args in
-    find-6 list-land _ _ (find (a .which) (a .size .0) (a .mode)) (set-up-true _ _ (up .set-up .ensures) (good .enum-told .given .1))
-    (survey-damaged _ _ _ _ (up .set-up .ensures) (good .enum-told .given .1) _ (arena .good-arena .ensures) _ (chain .chain .ensures) _ (survey .survey .ensures)
-    (c .before .enum-told3 .given .1)) _ (c .none-found2 .ensures)
-
-enum-told-4 : tie.Need-enum-told-4
-enum-told-4 c = search needs
-
-none-found-requires-3 : tie.Need-none-found-requires-3
-none-found-requires-3 c κs = search needs
+    let look = c .before .before .before in
+    let a = look .before .before .before .args in
+    looked-6 list-land _ _ _ _ (look .look .ensures) (find (a .which) (a .size .0) (a .mode)) (c .before .enum-told2 .given .1) _ (c .none-found2 .ensures)
 
 same-length-3 : tie.Need-same-length-3
 same-length-3 c = search needs
 
 returns-3 : tie.Need-returns-3
-returns-3 c =
-    let spot = c .before .before .before in
-    let survey = spot .before .before in
-    let chain = survey .before in
-    let aim = chain .before .before in
-    let check = aim .before .before in
-    let arena = check .before in
-    let good = arena .before in
-    let up = good .before .before in
-    let a = up .before .before .before .args in
-    find-4 list-land _ _ (a .which) (a .size) _ (arena .good-arena .ensures) _ (check .check-find .ensures) _ _
-    (survey-kept _ _ _ _ (up .set-up .ensures) (good .enum-told .given .1) _ (arena .good-arena .ensures) _ (chain .chain .ensures) _ (survey .survey .ensures) _ (spot .s .given .1))
-    (c .before .match3 .keys2) (a .mode) _ (c .none-found3 .ensures)
-
-find-at-requires : tie.Need-find-at-requires
-find-at-requires c κs =
-    let spot = c .before .before .before .before in
-    let survey = spot .before .before in
-    let chain = survey .before in
-    let aim = chain .before .before in
-    let check = aim .before .before in
-    let arena = check .before in
-    let good = arena .before in
-    let up = good .before .before in
-    let a = up .before .before .before .args in
-    find-ready list-land _ _ (a .which) (a .size) _ (arena .good-arena .ensures) _ (check .check-find .ensures) _ _
-    (survey-kept _ _ _ _ (up .set-up .ensures) (good .enum-told .given .1) _ (arena .good-arena .ensures) _ (chain .chain .ensures) _ (survey .survey .ensures) _ (spot .s .given .1))
-    (c .before .enum-told4 .given .1) _ (aim .before .find-size .ensures) (aim .of-find .ensures)
-
-same-length-4 : tie.Need-same-length-4
-same-length-4 c = search needs
-
-returns-4 : tie.Need-returns-4
-returns-4 c = search needs
+returns-3 c = search needs
 
 pub find-spec : {M : Type 1} → statement M
 find-spec =
     tie.close
     (tie.spec
-    set-up-requires
+    look-requires
     enum-told
-    enum-told-2
     none-found-requires
+    enum-told-2
+    none-found-requires-2
+    enum-known-s
+    find-at-requires
     same-length
     returns
-    good-arena-requires
-    check-find-requires
-    find-size-requires
-    of-find-requires
-    chain-requires
-    survey-requires
-    enum-known-s
-    enum-told-3
-    none-found-requires-2
     same-length-2
     returns-2
-    enum-told-4
-    none-found-requires-3
     same-length-3
-    returns-3
-    find-at-requires
-    same-length-4
-    returns-4)
+    returns-3)

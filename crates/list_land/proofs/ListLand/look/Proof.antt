@@ -22,6 +22,9 @@ good-arena-requires c κs = search look-ways
 chain-requires : tie.Need-chain-requires
 chain-requires c κs = search needs
 
+aim-of-requires : tie.Need-aim-of-requires
+aim-of-requires c κs = search look-ways
+
 survey-requires : tie.Need-survey-requires
 survey-requires c κs = search look-ways
 
@@ -47,6 +50,7 @@ look-spec =
     returns
     good-arena-requires
     chain-requires
+    aim-of-requires
     survey-requires
     enum-told-3
     enum-known-spot
