@@ -30,7 +30,7 @@ use Rattle.flush.specs.declared.FlushCheck.{FlushCheck}
 use Rattle.pair_model.specs.Pairs.{both, PairCall, Sets, keep, pair-step}
 use Rattle.pair_model.specs.PairLayouts.{meet, pair-read}
 use Rattle.pair.specs.Calls.{lands, PairDone, called, setUp, sound}
-use Rattle.pair.specs.inner.Parts.{checkOf, checkNumber, Checked}
+use Rattle.pair.specs.inner.Parts.{aimIn, checkOf, checkNumber, Checked}
 use Rattle.pair.specs.declared.Pair.{Pair}
 use Rattle.pair.specs.declared.PairCheck.{PairCheck}
 use Rattle.pair.proofs.Checking.{list-up, block-up, flush-good}
@@ -131,11 +131,11 @@ module _ (p : Pair) (ws vs : List ℕ) (aim : Aim) (v : PairCheck) (ev : v ≡ c
       ap checkNumber ev
       ∙ by (setUp p ws vs) (λ g. by (sound p ws vs) (λ t. rw (g, t)) (λ t. rw (g, t))) (λ g. rw g)
 
-  pub saw-checked : (s : Spot) (e : Entry) → v ≡ PairCheck.Good s e → Checked p ws vs aim s e
+  pub saw-checked : (s : Spot) (e : Entry) → v ≡ PairCheck.Good s e → Checked p ws vs (aimIn p aim) s e
   unfolding checkOf
   saw-checked s e f =
       let t = said-0 (setUp p ws vs) (sound p ws vs) (sym told ∙ ap checkNumber f) in
-      let q : v ≡ PairCheck.Good (kept-of aim (list.walkOf (p .list) ws .met)) (entryOf aim (block.tableOf (p .block) vs)) = rw (t .0, t .1) at ev in
+      let q : v ≡ PairCheck.Good (kept-of (aimIn p aim) (list.walkOf (p .list) ws .met)) (entryOf (aimIn p aim) (block.tableOf (p .block) vs)) = rw (t .0, t .1) at ev in
       record { good = t .0; whole = t .1; spot = cc; entry = cc }
 
   module _ {R : Type 0} (g : PairDone → R) (c : PairCall) (d : PairDone) (ed : d ≡ called c p ws vs) where

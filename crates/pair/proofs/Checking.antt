@@ -1,11 +1,12 @@
 -- The checks of a call of a pair: their ways out, and what they say of both lands. Assumes nothing.
-use Prim.Native.Nat.{ℕ}
+use Prim.Native.Nat.{ℕ, _<_}
 use mathlib.Core.Bool.{Bool, true, false, not, cond, _&&_, and-false, and-true}
 use mathlib.Core.List.{List}
-use mathlib.Core.Path.{_≡_, sym, ap₂, _∙_}
+use mathlib.Core.Path.{_≡_, sym, ap, ap₂, _∙_}
 use native.Mathlib.Omega.{arith}
 use lib.ListN.{length}
 use Rattle.units.specs.Rules.{arenaCheck, goodAlign, goodArena, setUpOf, soundnessOf}
+use Rattle.units.specs.inner.Aims.{aimOf}
 use Rattle.units.specs.Words.{rangeOf}
 use Rattle.units.specs.declared.Range as ranges
 use Rattle.units.specs.declared.aims.Aim.{Aim}
@@ -36,7 +37,7 @@ use Rattle.flush.proofs.FlushKeeps.{OneArena, one-arena}
 use Rattle.pair_model.specs.PairLayouts.{meet}
 use Rattle.pair_words.specs.inner.Besides.{surveyBeside}
 use Rattle.pair.specs.Calls.{setUp, sound}
-use Rattle.pair.specs.inner.Parts.{checkOf, refusedBy, foundNone}
+use Rattle.pair.specs.inner.Parts.{aimIn, checkOf, refusedBy, foundNone}
 use Rattle.pair.specs.declared.Pair.{Pair}
 use Rattle.pair.specs.declared.PairCheck.{PairCheck}
 
@@ -119,6 +120,9 @@ module _ (p : Pair) (ws vs : List ℕ) (aim : Aim) (good : setUp p ws vs ≡ tru
     pub check-arena : Ready a
     check-arena = rw ea (at .ready .arena)
 
+    pub check-positive : (b : units.Arena) → b ≡ a → 0 < b .align .0
+    check-positive b eb = rw (eb ∙ ea) (at .positive)
+
     pub check-words : (b : units.Arena) → b ≡ a → list-words.Ready b (length ws)
     check-words b eb = rw (eb ∙ ea) (at .ready)
 
@@ -146,17 +150,20 @@ module _ (p : Pair) (ws vs : List ℕ) (aim : Aim) (good : setUp p ws vs ≡ tru
         pub check-rising : Rising vs n
         check-rising = sound-rising a vs n (p .block .bytes) check-arena table-sound
 
-        module _ (b : units.Arena) (eb : b ≡ a) (h : Chain) (eh : h ≡ list-parts.chainIn (p .list))
-            (v : Verdict) (ev : v ≡ surveyBeside b ws h vs n aim) where
+        module _ (b : units.Arena) (eb : b ≡ a) (x : Aim) (ex : x ≡ aimOf b aim) (h : Chain) (eh : h ≡ list-parts.chainIn (p .list))
+            (v : Verdict) (ev : v ≡ surveyBeside b ws h vs n x) where
+          is-aim : x ≡ aimIn p aim
+          is-aim = ex ∙ ap (λ (y : units.Arena). aimOf y aim) (eb ∙ ea)
+
           abbrev met : List Range
           met = list.walkOf (p .list) ws .met
 
           abbrev overlap : Bool
           overlap = meet met (block.tableOf (p .block) vs)
 
-          found : v ≡ cond (list.sound (p .list) ws && not overlap) (Verdict.Sound (kept-of aim met)) Verdict.Damaged
+          found : v ≡ cond (list.sound (p .list) ws && not overlap) (Verdict.Sound (kept-of (aimIn p aim) met)) Verdict.Damaged
           unfolding surveyBeside list.sound
-          found = ev ∙ ap₂ (λ (x : units.Arena) (y : Chain). surveyBeside x ws y vs n aim) (eb ∙ ea) eh
+          found = ev ∙ ap (surveyBeside b ws h vs n) is-aim ∙ ap₂ (λ (y : units.Arena) (z : Chain). surveyBeside y ws z vs n (aimIn p aim)) (eb ∙ ea) eh
 
           block-sound : block.sound (p .block) vs ≡ true
           block-sound = sym is-table ∙ table-sound
@@ -171,15 +178,15 @@ module _ (p : Pair) (ws vs : List ℕ) (aim : Aim) (good : setUp p ws vs ≡ tru
           unfolding checkOf
           check-walk d =
               by both
-              (λ t. let q : v ≡ Verdict.Sound (kept-of aim met) = rw t at found in let z : _≡_ {A = ℕ} 0 1 = cc in absurd (omega arith))
+              (λ t. let q : v ≡ Verdict.Sound (kept-of (aimIn p aim) met) = rw t at found in let z : _≡_ {A = ℕ} 0 1 = cc in absurd (omega arith))
               (λ t. rw (good, as-sound, t))
 
-          pub check-good : (s : Spot) → v ≡ Verdict.Sound s → (e : Entry) → e ≡ entryOf aim (pairs vs n) → PairCheck.Good s e ≡ checkOf p ws vs aim
+          pub check-good : (s : Spot) → v ≡ Verdict.Sound s → (e : Entry) → e ≡ entryOf x (pairs vs n) → PairCheck.Good s e ≡ checkOf p ws vs aim
           unfolding checkOf
           check-good s d e ee =
               by both
-              (λ t. let q : v ≡ Verdict.Sound (kept-of aim met) = rw t at found in
-              let w : s ≡ kept-of aim met = cc in rw (good, as-sound, t) (ap₂ PairCheck.Good w ee))
+              (λ t. let q : v ≡ Verdict.Sound (kept-of (aimIn p aim) met) = rw t at found in
+              let w : s ≡ kept-of (aimIn p aim) met = cc in rw (good, as-sound, t) (ap₂ PairCheck.Good w (ee ∙ ap (λ (y : Aim). entryOf y (pairs vs n)) is-aim)))
               (λ t. let q : v ≡ Verdict.Damaged = rw t at found in let z : _≡_ {A = ℕ} 0 1 = cc in absurd (omega arith))
 
 pub ruleset checks = (check-align, check-arena, check-words, check-table, check-rising, check-walk, check-good)

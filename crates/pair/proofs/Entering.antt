@@ -14,6 +14,7 @@ use Rattle.model.specs.inner.Lists.{overlaps, holder}
 use Rattle.model.proofs.Totals.{total-insert}
 use Rattle.list_words.specs.inner.Surveys.{walkOf, kept-of}
 use Rattle.list_words.specs.declared.Spot as list-spot
+use Rattle.block_words.specs.inner.Surveys.{FirstReach}
 use Rattle.list_edits.specs.inner.Chains as chains
 use Rattle.list_edits.specs.inner.Chains.{metOf, Held, mayAsk}
 use Rattle.list_edits.specs.declared.ChainJoined as list-joined
@@ -22,7 +23,7 @@ use Rattle.list_land.specs.inner.Parts as list-parts
 use Rattle.list_land.specs.declared.ListLand.{ListLand}
 use Rattle.block_edits.specs.inner.Edits as edits
 use Rattle.block_edits.specs.inner.Edits.{Sorted}
-use Rattle.block_edits.specs.declared.TableJoined.{Joined}
+use Rattle.block_edits.specs.declared.TableJoined.{TableJoined}
 use Rattle.block_edits.proofs.Answered.{Did}
 use Rattle.block_land.specs.Layout as block
 use Rattle.block_land.specs.inner.Parts as block-parts
@@ -62,21 +63,21 @@ module _ (p : Pair) (ws : List ℕ) (y : units.Range) (s : list-spot.Spot) (k : 
         let u : t ≡ kept-of (Aim.Reach (y .base)) (list.walkOf (p .list) ws .met) = rw ea at et in
         join-asks (p .list) ws y a ea (list-parts.chainIn (p .list)) refl t (record { good = k .good; whole = k .whole; kept = u }) (k .asked) (k .clear)
 
-    abbrev listed : list-joined.Joined → Entered
+    abbrev listed : list-joined.ChainJoined → Entered
     listed j = record { counts = record { chain = j .chain; ranges = p .block .ranges; bytes = p .block .bytes }; range = j .range }
 
-    pub enter-listed : (j : list-joined.Joined) (ws' : List ℕ) →
+    pub enter-listed : (j : list-joined.ChainJoined) (ws' : List ℕ) →
         (j ≡ chains.joinedOf (metOf a ws (list-parts.chainIn (p .list))) y) × (ws' ≡ chains.joinedWords (metOf a ws (list-parts.chainIn (p .list))) y (a .base .0) ws) →
         (listed j ≡ enterList p ws y) × (ws' ≡ enterWords p ws y)
     enter-listed j ws' e = let d = join-done (p .list) ws y a ea (list-parts.chainIn (p .list)) refl j ws' e in (ap listed (d .0), d .1)
 
 -- INTO THE BLOCK LAND
 module _ (r : Range) (n : ℕ) where
-  joined-full : (room : Bool) → cond room (Joined.Done (struct r) n) Joined.Full ≡ Joined.Full → room ≡ false
+  joined-full : (room : Bool) → cond room (TableJoined.Done (struct r) n) TableJoined.Full ≡ TableJoined.Full → room ≡ false
   joined-full true e = let z : _≡_ {A = ℕ} 0 1 = cc in absurd (omega arith)
   joined-full false e = refl
 
-  joined-done : (room : Bool) (x : units.Range) (m : ℕ) → cond room (Joined.Done (struct r) n) Joined.Full ≡ Joined.Done x m → Did false room r n x m
+  joined-done : (room : Bool) (x : units.Range) (m : ℕ) → cond room (TableJoined.Done (struct r) n) TableJoined.Full ≡ TableJoined.Done x m → Did false room r n x m
   joined-done true x m e = record { good = refl; fits = refl; range = cc; count = cc }
   joined-done false x m e = let z : _≡_ {A = ℕ} 0 1 = cc in absurd (omega arith)
 
@@ -84,20 +85,20 @@ module _ (p : Pair) (ws vs : List ℕ) (y : units.Range) (s : list-spot.Spot) (k
   read : block-parts.Readable (p .block) vs
   read = record { good = k .good; whole = k .whole }
 
-  pub enter-sorted : (i : ℕ) → Spot vs (p .block .ranges) (y .base .0) i →
-      Sorted vs (p .block .ranges) × ((y .base .0 < y .limit .0) × (Spot vs (p .block .ranges) (y .base .0) i × (overlaps (y .base .0) (y .limit .0) (block.tableOf (p .block) vs) ≡ false)))
+  pub enter-sorted : (i : ℕ) → FirstReach vs (p .block .ranges) (y .base .0) i →
+      Sorted vs (p .block .ranges) × ((y .base .0 < y .limit .0) × (FirstReach vs (p .block .ranges) (y .base .0) i × (overlaps (y .base .0) (y .limit .0) (block.tableOf (p .block) vs) ≡ false)))
   enter-sorted i t = (sorted (p .block) vs read, (k .proper, (t, k .clear)))
 
   abbrev Enters : Entered → List ℕ → List ℕ → Type 0
   Enters w ws' vs' = (w ≡ entered p ws vs y) × (ws' ≡ enteredWords p ws vs y) × (vs' ≡ enteredNodes p vs y)
 
-  module _ (d : Joined) (vs' : List ℕ) (ed : (d ≡ edits.joinedOf vs (p .block .ranges) y) × (vs' ≡ edits.joinedWords vs (p .block .ranges) y)) where
-    pub enter-full : d ≡ Joined.Full → (w : Entered) (ws' : List ℕ) → (w ≡ enterList p ws y) × (ws' ≡ enterWords p ws y) → Enters w ws' vs'
+  module _ (d : TableJoined) (vs' : List ℕ) (ed : (d ≡ edits.joinedOf vs (p .block .ranges) y) × (vs' ≡ edits.joinedWords vs (p .block .ranges) y)) where
+    pub enter-full : d ≡ TableJoined.Full → (w : Entered) (ws' : List ℕ) → (w ≡ enterList p ws y) × (ws' ≡ enterWords p ws y) → Enters w ws' vs'
     enter-full f w ws' q =
         let o = joined-full (holder (y .base .0) (y .limit .0) (blocked p vs y)) (length (blocked p vs y)) (roomy p vs y) (sym (ed .0) ∙ f) in
         (rw o (q .0), rw o (q .1), ed .1)
 
-    module _ (x : units.Range) (m : ℕ) (f : d ≡ Joined.Done x m) (z : Size) (ez : z .0 ≡ y .limit .0 - y .base .0) where
+    module _ (x : units.Range) (m : ℕ) (f : d ≡ TableJoined.Done x m) (z : Size) (ez : z .0 ≡ y .limit .0 - y .base .0) where
       pub enter-room : p .block .bytes .0 + z .0 < 18446744073709551616
       enter-room = let t = few-bytes (p .block) vs read in let u = k .upto in omega arith
 

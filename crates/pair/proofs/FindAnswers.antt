@@ -2,23 +2,18 @@
 use Prim.Native.Nat.{ℕ, _<_}
 use mathlib.Core.Bool.{Bool, true, cond}
 use mathlib.Core.List.{List, [], _∷_}
-use mathlib.Core.Logic.{⊎-elim}
 use mathlib.Core.Path.{_≡_, refl, sym, ap, ap₂, subst, _∙_}
-use native.Mathlib.Omega.{arith}
 use types.Run.{OneOf}
 use denote.Enum.Declared.{tagOf}
 use Rattle.units.specs.inner.Aims as units-aims
-use Rattle.units.specs.Rules.{goodAlign, findCheck, findSize, setUpOf}
+use Rattle.units.specs.Rules.{findCheck, findSize}
 use Rattle.units.specs.declared.Mode.{Mode}
 use Rattle.units.specs.declared.Range as units
 use Rattle.units.specs.declared.Size.{Size}
 use Rattle.units.specs.declared.Which.{Which}
 use Rattle.units.specs.declared.aims.Aim.{Aim}
 use Rattle.units.specs.declared.rules.Arena as units-arena
-use Rattle.units.specs.declared.rules.SetUp.{SetUp}
 use Rattle.units.specs.declared.rules.SizeCheck.{SizeCheck}
-use Rattle.units.proofs.Cases.{set-up-true, set-up-false}
-use Rattle.units.proofs.Tests.{by}
 use Rattle.units.proofs.rules.SizeCheck as size-type
 use Rattle.model.specs.Calls as land
 use Rattle.model.specs.Calls.{Arena, Step, good-size, size-number, find-size, unbounded}
@@ -40,16 +35,15 @@ use Rattle.block_land.proofs.Land.{block-land}
 use Rattle.block_land.proofs.Sound as block-sound
 use Rattle.flush.proofs.FlushKeeps.{OneArena}
 use Rattle.pair_model.specs.Pairs.{both, Sets, find, keep, in-list, in-block, find-in, pair-step}
-use Rattle.pair.specs.Calls.{called, found, foundOf, setUp, sound}
+use Rattle.pair.specs.Calls.{called, found, foundOf}
 use Rattle.pair.specs.inner.Finding.{findAim, Ordered, sideOf, ListChosen, BlockChosen, listFound, blockFound}
-use Rattle.pair.specs.inner.Parts.{checkOf, Checked, foundNone}
+use Rattle.pair.specs.inner.Parts.{aimIn, checkOf, Checked, foundNone}
 use Rattle.pair.specs.declared.Found.{Found}
 use Rattle.pair.specs.declared.Pair.{Pair}
 use Rattle.pair.specs.declared.PairCheck.{PairCheck}
 use Rattle.pair.specs.declared.find.Side.{Side}
-use Rattle.pair.proofs.PairCheck as check-type
 use Rattle.pair.proofs.Checking.{block-up, same-up}
-use Rattle.pair.proofs.Calling.{Hands, saw-checked, bad-is-5, damaged-is-6, list-looked, block-looked, refuses, accepts, refuse}
+use Rattle.pair.proofs.Calling.{Hands, answers-5, answers-6, list-looked, block-looked, refuses, accepts, refuse}
 use Rattle.pair.proofs.FindLands.{find-accepts, find-done}
 use Rattle.pair.proofs.Sides.{list-there, block-there, by-side, side-step}
 
@@ -160,48 +154,39 @@ module _ (p : Pair) (ws vs : List ℕ) (w : Which) (n : Size) (mode : Mode) (s :
           (v ≡ blockFound p (block-calls.found (p .block) vs w (n .0) mode)) × (vs' ≡ block-calls.found (p .block) vs w (n .0) mode .words) → Gives v ws vs'
       find-block v vs' u = (rw block-is (u .0), rw block-is, rw block-is (u .1))
 
--- BEFORE THE RANGES ARE CHOSEN
-module _ (p : Pair) (ws vs : List ℕ) (w : Which) (n : Size) (mode : Mode) (r : SetUp) (er : r ≡ setUpOf (setUp p ws vs)) where
-  pub find-5 : r ≡ SetUp.Bad → (v : Found) → v ≡ foundNone p 5 → Hands foundOf (found p ws vs w (n .0) mode) v ws vs
-  find-5 f =
-      bad-is-5 foundOf p ws vs (find w (n .0) mode) (found p ws vs w (n .0) mode) (is-found p ws vs w (n .0) mode)
-      (set-up-false (setUp p ws vs) r er f)
+-- WHAT A CHECK FOR A FIND SAYS
+module _ (p : Pair) (ws vs : List ℕ) (w : Which) (n : Size) (mode : Mode) (v : PairCheck) (ev : v ≡ checkOf p ws vs (Aim.Find w n)) where
+  pub find-5 : v ≡ PairCheck.BadSetUp → (r : Found) → r ≡ foundNone p 5 → Hands foundOf (found p ws vs w (n .0) mode) r ws vs
+  find-5 = answers-5 p ws vs (Aim.Find w n) v ev foundOf (find w (n .0) mode) (found p ws vs w (n .0) mode) (is-found p ws vs w (n .0) mode)
 
-  module _ (f : r ≡ SetUp.Good) where
-    good-up : setUp p ws vs ≡ true
-    good-up = set-up-true (setUp p ws vs) r er f
+  pub find-6 : v ≡ PairCheck.Damaged → (r : Found) → r ≡ foundNone p 6 → Hands foundOf (found p ws vs w (n .0) mode) r ws vs
+  find-6 = answers-6 p ws vs (Aim.Find w n) v ev foundOf (find w (n .0) mode) (found p ws vs w (n .0) mode) (is-found p ws vs w (n .0) mode)
 
-    module _ (b : units-arena.Arena) (eb : b ≡ block-parts.arenaIn (p .block)) where
-      pub find-align : goodAlign (b .align .0) ≡ true
-      find-align = rw eb (block-sound.placed (p .block) vs (block-up p ws vs good-up) .arena .align)
+-- THE SIZE
+module _ (p : Pair) (ws vs : List ℕ) (w : Which) (n : Size) (s : Spot) (e : Entry) (k : Checked p ws vs (aimIn p (Aim.Find w n)) s e)
+    (x : units-arena.Arena) (ex : x ≡ block-parts.arenaIn (p .block)) where
+  pub find-positive : 0 < x .align .0
+  find-positive = rw ex (block-sound.placed (p .block) vs (block-up p ws vs (k .good)) .positive)
 
-      module _ (x : units-arena.Arena) (ex : x ≡ b) where
-        pub find-positive : 0 < x .align .0
-        find-positive = rw (ex ∙ eb) (block-sound.placed (p .block) vs (block-up p ws vs good-up) .positive)
+  -- the arena of the block land is that of the list
+  one-arena : list-parts.arenaIn (p .list) ≡ block-parts.arenaIn (p .block)
+  one-arena =
+      let o = same-up p ws vs (k .good) in
+      λ i. record { base = record { 0 = o .base i }; limit = record { 0 = o .limit i }; align = record { 0 = o .align i } }
 
-        module _ (c : SizeCheck) (ec : c ≡ findCheck w (x .base .0) (x .limit .0) (x .align .0) (n .0)) (aim : Aim) (v : PairCheck) (ev : v ≡ checkOf p ws vs aim) where
-          pub find-6 : OneOf (0 ∷ 1 ∷ []) (tagOf check-type.the-type v) → (z : Found) → z ≡ foundNone p 6 → Hands foundOf (found p ws vs w (n .0) mode) z ws vs
-          unfolding checkOf
-          find-6 o =
-              damaged-is-6 foundOf p ws vs (find w (n .0) mode) (found p ws vs w (n .0) mode) (is-found p ws vs w (n .0) mode) good-up
-              (by (sound p ws vs)
-              (λ t. let d : v ≡ PairCheck.Good _ _ = rw (good-up, t) at ev in absurd (⊎-elim (λ i. omega arith) (λ i. omega arith) (rw d at o)))
-              (λ t. t))
+  module _ (c : SizeCheck) (ec : c ≡ findCheck w (x .base .0) (x .limit .0) (x .align .0) (n .0)) where
+    pub find-4 : OneOf (1 ∷ 2 ∷ []) (tagOf size-type.the-type c) → (mode : Mode) (r : Found) → r ≡ foundNone p 4 → Hands foundOf (found p ws vs w (n .0) mode) r ws vs
+    find-4 o mode =
+        let z = size-refused (block.arenaOf (p .block) vs) w (n .0) (size-bad (block.arenaOf (p .block) vs) x ex w (n .0) c ec o) in
+        refuse foundOf p ws vs 4 (found p ws vs w (n .0) mode)
+        (is-found p ws vs w (n .0) mode ∙ refuses p ws vs (aimIn p (Aim.Find w n)) s e k (find w (n .0) mode) 4 refl (rw z))
 
-          module _ (s : Spot) (e : Entry) (g : v ≡ PairCheck.Good s e) where
-            kept : Checked p ws vs aim s e
-            kept = saw-checked p ws vs aim v ev s e g
-
-            pub find-4 : OneOf (1 ∷ 2 ∷ []) (tagOf size-type.the-type c) → (z : Found) → z ≡ foundNone p 4 → Hands foundOf (found p ws vs w (n .0) mode) z ws vs
-            find-4 o =
-                let q = size-bad (block.arenaOf (p .block) vs) x (ex ∙ eb) w (n .0) c ec o in
-                refuse foundOf p ws vs 4 (found p ws vs w (n .0) mode)
-                (is-found p ws vs w (n .0) mode
-                ∙ refuses p ws vs aim s e kept (find w (n .0) mode) 4 refl (rw (size-refused (block.arenaOf (p .block) vs) w (n .0) q)))
-
-            pub find-ready : c ≡ SizeCheck.Good → (m : Size) → m .0 ≡ findSize (x .align .0) (n .0) → aim ≡ units-aims.findAim c w m →
-                Checked p ws vs (findAim p w n) s e × (good-size (block.arenaOf (p .block) vs) w (n .0) ≡ true)
-            find-ready h m em ea =
-                let d : m .0 ≡ findSize (p .block .align .0) (n .0) = em ∙ ap (λ (y : units-arena.Arena). findSize (y .align .0) (n .0)) (ex ∙ eb) in
-                let q : aim ≡ findAim p w n = ea ∙ ap (λ (y : SizeCheck). units-aims.findAim y w m) h ∙ ap (λ (y : ℕ). Aim.Find w (record { 0 = y })) d in
-                (rw q at kept, size-good (block.arenaOf (p .block) vs) x (ex ∙ eb) w (n .0) c ec h)
+    pub find-ready : c ≡ SizeCheck.Good → Checked p ws vs (findAim p w n) s e × (good-size (block.arenaOf (p .block) vs) w (n .0) ≡ true)
+    find-ready g =
+        let a = block-parts.arenaIn (p .block) in
+        let f : findCheck w (a .base .0) (a .limit .0) (a .align .0) (n .0) ≡ SizeCheck.Good =
+        ap (λ (y : units-arena.Arena). findCheck w (y .base .0) (y .limit .0) (y .align .0) (n .0)) (sym ex) ∙ sym ec ∙ g in
+        let q : aimIn p (Aim.Find w n) ≡ findAim p w n =
+        ap (λ (y : units-arena.Arena). units-aims.aimOf y (Aim.Find w n)) one-arena
+        ∙ ap (λ (y : SizeCheck). units-aims.findAim y w (record { 0 = findSize (a .align .0) (n .0) })) f in
+        (rw q at k, size-good (block.arenaOf (p .block) vs) x ex w (n .0) c ec g)

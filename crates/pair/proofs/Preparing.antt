@@ -15,7 +15,7 @@ use Rattle.model.proofs.Flushing.{flush-still}
 use Rattle.model.proofs.Places.{apart-rest}
 use Rattle.list_words.specs.Laying.{head-of}
 use Rattle.list_land.specs.Layout as list
-use Rattle.block_words.specs.inner.Surveys.{Ordered}
+use Rattle.block_words.specs.inner.Surveys.{Ordered, FirstReach}
 use Rattle.block_words.specs.Words.{fill}
 use Rattle.block_words.specs.declared.Entry.{Entry}
 use Rattle.block_land.specs.Layout as block
@@ -61,7 +61,7 @@ module _ (p : Pair) (ws vs : List ℕ) (y : units.Range) (e : Entry) (k : Prepar
         (subst (Apart (list.base (p .list)) (list.limit (p .list))) (known .moved .split) (known .list-fine .apart)) same-head in
         flush-still (block.arenaOf (p .block) vs) (list.walkOf (p .list) ws .met) (block.tableOf (p .block) vs) (known .moved .moved ∙ ap length n)
 
-    pub prepare-same : Spot vs' (c .ranges) (y .base .0) (e .number)
+    pub prepare-same : FirstReach vs' (c .ranges) (y .base .0) (e .number)
     prepare-same =
         let v : vs' ≡ vs = f .1 ∙ ap (λ (x : List Range). fill x vs) (nothing .1) ∙ words-back (p .block) vs (known .block-fine) in
         let n : c .ranges ≡ p .block .ranges = count ∙ ap length (nothing .1) ∙ ap (λ (x : BlockLand). x .ranges) (handle-back (p .block) vs (known .block-fine)) in

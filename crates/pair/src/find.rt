@@ -10,21 +10,18 @@ use list_words::Spot;
 use units::Aim;
 use units::Mode;
 use units::Range;
-use units::SetUp;
 use units::Size;
 use units::SizeCheck;
 use units::Which;
-ghost use mathlib.Core.Bool.{true};
 ghost use mathlib.Core.Path.{_≡_};
-ghost use Rattle.model.specs.Calls.{good-size};
+ghost use Rattle.units.specs.declared.aims.Aim.{Aim as Aim·};
 ghost use Rattle.model.specs.Marks.{plain};
 ghost use Rattle.list_land.specs.Calls as list;
 ghost use Rattle.block_land.specs.Calls as block;
-ghost use Rattle.block_land.specs.Layout.{arenaOf};
 ghost use Rattle.pair_model.specs.Pairs.{list-first};
 ghost use Rattle.pair.specs.Calls.{found, foundOf};
-ghost use Rattle.pair.specs.inner.Parts.{Checked};
-ghost use Rattle.pair.specs.inner.Finding.{findAim, Ordered, sideOf, ListChosen, BlockChosen, listFound, blockFound};
+ghost use Rattle.pair.specs.inner.Parts.{aimIn, Checked};
+ghost use Rattle.pair.specs.inner.Finding.{Ordered, sideOf, ListChosen, BlockChosen, listFound, blockFound};
 
 // The land whose range is taken.
 pub enum Side {
@@ -143,7 +140,7 @@ impl Pair {
         }
     }
 
-    // A find of a good size in a sound pair, at the ranges chosen in both lands.
+    // A find in a sound pair, at the ranges chosen in both lands: 4, 2, and the removal.
     fn find_at(
         self,
         words: &mut [u64],
@@ -154,10 +151,13 @@ impl Pair {
         spot: Spot,
         entry: Entry,
     ) -> Found
-        requires { ⌜ Checked self (now words) (now nodes) (findAim self which size) spot entry ⌝ }
-        requires { ⌜ good-size (arenaOf (self .block) (now nodes)) which (size .0) ≡ true ⌝ }
+        requires { ⌜ Checked self (now words) (now nodes) (aimIn self (Aim·.Find which size)) spot entry ⌝ }
         ensures { λ r. ⌜ (r ≡ foundOf (found self (now (words .entry)) (now (nodes .entry)) which (size .0) mode)) × (now (words .exit) ≡ found self (now (words .entry)) (now (nodes .entry)) which (size .0) mode .words .list) × (now (nodes .exit) ≡ found self (now (words .entry)) (now (nodes .entry)) which (size .0) mode .words .block) ⌝ }
     {
+        let block = self.block;
+        let SizeCheck::Good = block.arena().check_find(which, size) else {
+            return none_found(self, 4);
+        };
         match choose_side(which, spot.here, entry.here) {
             Side::Neither => none_found(self, 2),
             Side::List => self.find_in_list(words, which, size, mode, spot),
@@ -176,22 +176,15 @@ impl Pair {
     ) -> Found
         ensures { λ r. ⌜ (r ≡ foundOf (found self (now (words .entry)) (now (nodes .entry)) which (size .0) mode)) × (now (words .exit) ≡ found self (now (words .entry)) (now (nodes .entry)) which (size .0) mode .words .list) × (now (nodes .exit) ≡ found self (now (words .entry)) (now (nodes .entry)) which (size .0) mode .words .block) ⌝ }
     {
-        let SetUp::Good = self.set_up(words, nodes) else {
-            return none_found(self, 5);
-        };
-        let block = self.block;
-        let arena = block.arena().divided();
-        let check = arena.check_find(which, size);
-        let aim = Aim::of_find(check, which, arena.find_size(size));
-        let PairCheck::Good(s, e) = self.look(words, nodes, aim) else {
-            return none_found(self, 6);
-        };
-        let spot = s;
-        let entry = e;
-        let SizeCheck::Good = check else {
-            return none_found(self, 4);
-        };
-        self.find_at(words, nodes, which, size, mode, spot, entry)
+        match self.check(words, nodes, Aim::Find(which, size)) {
+            PairCheck::BadSetUp => none_found(self, 5),
+            PairCheck::Damaged => none_found(self, 6),
+            PairCheck::Good(s, e) => {
+                let spot = s;
+                let entry = e;
+                self.find_at(words, nodes, which, size, mode, spot, entry)
+            }
+        }
     }
 
     // The isolated range of at least the size with the lowest base in either land.

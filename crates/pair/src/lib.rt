@@ -19,7 +19,6 @@ use units::Aim;
 use units::Range;
 use units::SetUp;
 use units::Soundness;
-ghost use mathlib.Core.Bool.{true};
 ghost use mathlib.Core.Path.{_≡_};
 ghost use Rattle.units.specs.Rules.{setUpOf};
 ghost use Rattle.pair.specs.Calls.{setUp};
@@ -80,7 +79,7 @@ fn none_found(pair: Pair, answer: u64) -> Found
 
 impl Pair {
     // Whether the arenas of both lands are one, its set-up is good, and node space is not too long.
-    pub(crate) fn set_up(self, words: &[u64], nodes: &[u64]) -> SetUp
+    fn set_up(self, words: &[u64], nodes: &[u64]) -> SetUp
         ensures { λ r. ⌜ r ≡ setUpOf (setUp self (now (words .entry)) (now (nodes .entry))) ⌝ }
     {
         let list = self.list;
@@ -93,12 +92,14 @@ impl Pair {
         block_land::lent(nodes)
     }
 
-    // What a call whose set-up is good finds: a sound table, then in one walk a sound list with no byte that is in the table
-    // too, and what the aim keeps of both.
-    pub(crate) fn look(self, words: &[u64], nodes: &[u64], aim: Aim) -> PairCheck
-        requires { ⌜ setUp self (now words) (now nodes) ≡ true ⌝ }
+    // The checks of a call: the set-up, a sound table, then in one walk a sound list with no byte that is in the table too.
+    // What the call asks for is kept of both.
+    pub fn check(self, words: &[u64], nodes: &[u64], aim: Aim) -> PairCheck
         ensures { λ r. ⌜ r ≡ checkOf self (now (words .entry)) (now (nodes .entry)) aim ⌝ }
     {
+        let SetUp::Good = self.set_up(words, nodes) else {
+            return PairCheck::BadSetUp;
+        };
         let list = self.list;
         let block = self.block;
         let arena = list.arena();
@@ -108,19 +109,10 @@ impl Pair {
         };
         let n = block.ranges as usize;
         let arena = arena.divided();
+        let aim = arena.aim_of(aim);
         let Verdict::Sound(spot) = walks::survey(arena, words, list.chain(), nodes, n, aim) else {
             return PairCheck::Damaged;
         };
         PairCheck::Good(spot, seeks::entry(nodes, n, aim))
-    }
-
-    // The checks of a call: the set-up, then both lands.
-    pub fn check(self, words: &[u64], nodes: &[u64], aim: Aim) -> PairCheck
-        ensures { λ r. ⌜ r ≡ checkOf self (now (words .entry)) (now (nodes .entry)) aim ⌝ }
-    {
-        let SetUp::Good = self.set_up(words, nodes) else {
-            return PairCheck::BadSetUp;
-        };
-        self.look(words, nodes, aim)
     }
 }

@@ -10,6 +10,7 @@ use Rattle.model.specs.Calls.{good-range}
 use Rattle.list_words.specs.inner.Surveys.{kept-of}
 use Rattle.list_words.specs.declared.Spot.{Spot}
 use Rattle.list_land.specs.Layout as list
+use Rattle.list_land.specs.inner.Parts as list-parts
 use Rattle.block_words.specs.inner.Surveys.{entryOf}
 use Rattle.block_words.specs.declared.Entry.{Entry}
 use Rattle.block_land.specs.Layout as block
@@ -19,12 +20,16 @@ use Rattle.pair.specs.declared.Found.{Found}
 use Rattle.pair.specs.declared.Pair.{Pair}
 use Rattle.pair.specs.declared.PairCheck.{PairCheck}
 
+-- What a call looks for, by the arena of both lands.
+abbrev pub aimIn : Pair → Aim → Aim
+aimIn p aim = list-parts.aimIn (p .list) aim
+
 module _ (p : Pair) (ws vs : List ℕ) where
   -- 5, then 6, then what the aim keeps of both.
   unfoldable pub checkOf : Aim → PairCheck
   checkOf aim =
       cond (setUp p ws vs)
-      (cond (sound p ws vs) (PairCheck.Good (kept-of aim (list.walkOf (p .list) ws .met)) (entryOf aim (block.tableOf (p .block) vs))) PairCheck.Damaged)
+      (cond (sound p ws vs) (PairCheck.Good (kept-of (aimIn p aim) (list.walkOf (p .list) ws .met)) (entryOf (aimIn p aim) (block.tableOf (p .block) vs))) PairCheck.Damaged)
       PairCheck.BadSetUp
 
 -- 01's number of each case: 5, 6, or 0.

@@ -1,6 +1,6 @@
--- `Pair::check` meets its contract: the set-up, then the look. Assumes nothing.
+-- `Pair::check` meets its contract: the first check that fails. Assumes nothing.
 use Rattle.units.proofs.Cases.{set-up-true}
-use Rattle.pair.proofs.Checking.{check-up}
+use Rattle.pair.proofs.Checking.{check-up, check-align, check-arena, check-positive, check-words, check-table, check-rising, check-walk, check-good}
 use borrow.Author.Needs.{needs}
 use Rattle.pair.proofs.Pair.check.Statement.{statement}
 use Rattle.pair.proofs.Pair.check.Tie as tie
@@ -19,12 +19,140 @@ returns c =
     let up = c .before .before in
     check-up _ _ _ (up .before .before .before .args .aim) _ (up .set-up .ensures) (c .enum-told2 .given .1)
 
-look-requires : tie.Need-look-requires
-look-requires c κs = set-up-true _ _ (c .before .before .set-up .ensures) (c .enum-told .given .1)
+arena-requires : tie.Need-arena-requires
+arena-requires c κs = search needs
+
+sound-requires : tie.Need-sound-requires
+sound-requires c κs =
+    let arena = c .before in
+    let told = arena .before .before .before in
+    let up = told .before .before in
+    let start = up .before .before .before in
+    let good = set-up-true _ _ (up .set-up .ensures) (told .enum-told .given .1) in
+    check-arena (start .args .self) _ _ (start .args .aim) good _ (arena .arena .ensures)
+
+enum-told-3 : tie.Need-enum-told-3
+enum-told-3 c = search needs
+
+enum-told-4 : tie.Need-enum-told-4
+enum-told-4 c = search needs
 
 returns-2 : tie.Need-returns-2
-returns-2 c = search needs
+returns-2 c =
+    let sound = c .before .before in
+    let arena = sound .before .before in
+    let told = arena .before .before .before in
+    let up = told .before .before in
+    let start = up .before .before .before in
+    let good = set-up-true _ _ (up .set-up .ensures) (told .enum-told .given .1) in
+    check-table (start .args .self) _ _ (start .args .aim) good _ (arena .arena .ensures) _ (sound .sound .ensures) (c .enum-told4 .given .1)
+
+divided-requires : tie.Need-divided-requires
+divided-requires c κs =
+    let arena = c .before .before .before .before in
+    let told = arena .before .before .before in
+    let up = told .before .before in
+    let start = up .before .before .before in
+    let good = set-up-true _ _ (up .set-up .ensures) (told .enum-told .given .1) in
+    check-align (start .args .self) _ _ (start .args .aim) good _ (arena .arena .ensures)
+
+aim-of-requires : tie.Need-aim-of-requires
+aim-of-requires c κs =
+    let arena = c .before .before .before .before .before in
+    let told = arena .before .before .before in
+    let up = told .before .before in
+    let start = up .before .before .before in
+    let good = set-up-true _ _ (up .set-up .ensures) (told .enum-told .given .1) in
+    check-positive (start .args .self) _ _ (start .args .aim) good _ (arena .arena .ensures) _ (c .divided .ensures)
+
+chain-requires : tie.Need-chain-requires
+chain-requires c κs = search needs
+
+survey-requires : tie.Need-survey-requires
+survey-requires c κs =
+    let aim = c .before in
+    let divided = aim .before in
+    let table = divided .before in
+    let sound = table .before .before in
+    let arena = sound .before .before in
+    let told = arena .before .before .before in
+    let up = told .before .before in
+    let start = up .before .before .before in
+    let good = set-up-true _ _ (up .set-up .ensures) (told .enum-told .given .1) in
+    (check-words (start .args .self) _ _ (start .args .aim) good _ (arena .arena .ensures) _ (divided .divided .ensures), check-rising (start .args .self) _ _ (start .args .aim) good _ (arena .arena .ensures) _ (sound .sound .ensures) (table .enum-told3 .given .1))
+
+enum-known-spot : tie.Need-enum-known-spot
+enum-known-spot c = search needs
+
+enum-told-5 : tie.Need-enum-told-5
+enum-told-5 c = search needs
+
+returns-3 : tie.Need-returns-3
+returns-3 c =
+    let survey = c .before .before in
+    let chain = survey .before in
+    let aim = chain .before in
+    let divided = aim .before in
+    let table = divided .before in
+    let sound = table .before .before in
+    let arena = sound .before .before in
+    let told = arena .before .before .before in
+    let up = told .before .before in
+    let start = up .before .before .before in
+    let good = set-up-true _ _ (up .set-up .ensures) (told .enum-told .given .1) in
+    check-walk (start .args .self) _ _ (start .args .aim) good _ (arena .arena .ensures) _ (sound .sound .ensures) (table .enum-told3 .given .1)
+    _ (divided .divided .ensures) _ (aim .aim-of .ensures) _ (chain .chain .ensures) _ (survey .survey .ensures) (c .enum-told5 .given .1)
+
+entry-requires : tie.Need-entry-requires
+entry-requires c κs =
+    let survey = c .before .before .before in
+    let aim = survey .before .before in
+    let divided = aim .before in
+    let table = divided .before in
+    let sound = table .before .before in
+    let arena = sound .before .before in
+    let told = arena .before .before .before in
+    let up = told .before .before in
+    let start = up .before .before .before in
+    let good = set-up-true _ _ (up .set-up .ensures) (told .enum-told .given .1) in
+    check-rising (start .args .self) _ _ (start .args .aim) good _ (arena .arena .ensures) _ (sound .sound .ensures) (table .enum-told3 .given .1)
+
+returns-4 : tie.Need-returns-4
+returns-4 c =
+    let spot = c .before .before in
+    let survey = spot .before .before in
+    let chain = survey .before in
+    let aim = chain .before in
+    let divided = aim .before in
+    let table = divided .before in
+    let sound = table .before .before in
+    let arena = sound .before .before in
+    let told = arena .before .before .before in
+    let up = told .before .before in
+    let start = up .before .before .before in
+    let good = set-up-true _ _ (up .set-up .ensures) (told .enum-told .given .1) in
+    check-good (start .args .self) _ _ (start .args .aim) good _ (arena .arena .ensures) _ (sound .sound .ensures) (table .enum-told3 .given .1)
+    _ (divided .divided .ensures) _ (aim .aim-of .ensures) _ (chain .chain .ensures) _ (survey .survey .ensures) _ (spot .spot .given .1) _ (c .entry .ensures)
 
 pub check-spec : {M : Type 1} → statement M
 check-spec =
-    tie.close (tie.spec set-up-requires enum-told enum-told-2 returns look-requires returns-2)
+    tie.close
+    (tie.spec
+    set-up-requires
+    enum-told
+    enum-told-2
+    returns
+    arena-requires
+    sound-requires
+    enum-told-3
+    enum-told-4
+    returns-2
+    divided-requires
+    aim-of-requires
+    chain-requires
+    survey-requires
+    enum-known-spot
+    enum-told-5
+    returns-3
+    entry-requires
+    returns-4)

@@ -1,11 +1,16 @@
--- `Pair::find_at` meets its contract: 2, the find in the list, the find in the block land. Assumes nothing.
-use Rattle.pair.proofs.FindAnswers.{find-ordered, find-2, list-chosen, find-list, block-chosen, find-block}
+-- `Pair::find_at` meets its contract: 4, 2, the find in the list, the find in the block land. Assumes nothing.
+use Rattle.pair.proofs.FindAnswers.{find-positive, find-4, find-ready, find-ordered, find-2, list-chosen, find-list, block-chosen, find-block}
 use borrow.Author.Needs.{needs}
 use Rattle.pair.proofs.Pair.find_at.Statement.{statement}
 use Rattle.pair.proofs.Pair.find_at.Tie as tie
 
-choose-side-requires : tie.Need-choose-side-requires
-choose-side-requires c κs = let start = c .before .before in find-ordered (start .args .self) _ _ (start .args .which) (start .args .size) (start .args .mode) _ _ (start .pre .0)
+arena-requires : tie.Need-arena-requires
+arena-requires c κs = search needs
+
+check-find-requires : tie.Need-check-find-requires
+check-find-requires c κs =
+    let start = c .before .before .before .before in
+    find-positive (start .args .self) _ _ (start .args .which) (start .args .size) _ _ (start .pre) _ (c .arena .ensures)
 
 enum-told : tie.Need-enum-told
 enum-told c = search needs
@@ -13,68 +18,119 @@ enum-told c = search needs
 none-found-requires : tie.Need-none-found-requires
 none-found-requires c κs = search needs
 
+returns : tie.Need-returns
+returns c =
+    let check = c .before .before in
+    let arena = check .before in
+    let start = arena .before .before .before .before in
+    find-4 (start .args .self) _ _ (start .args .which) (start .args .size) _ _ (start .pre) _ (arena .arena .ensures) _ (check .check-find .ensures) (c .before .match .keys2)
+    (start .args .mode) _ (c .none-found .ensures)
+
+choose-side-requires : tie.Need-choose-side-requires
+choose-side-requires c κs =
+    let told = c in
+    let check = told .before .before in
+    let arena = check .before in
+    let start = arena .before .before .before .before in
+    let a = start .args in
+    let ready = find-ready (a .self) _ _ (a .which) (a .size) _ _ (start .pre) _ (arena .arena .ensures) _ (check .check-find .ensures) (told .enum-told .given .1) in
+    find-ordered (a .self) _ _ (a .which) (a .size) (a .mode) _ _ (ready .0)
+
 enum-told-2 : tie.Need-enum-told-2
 enum-told-2 c = search needs
 
-find-in-list-requires : tie.Need-find-in-list-requires
-find-in-list-requires c κs =
-    let told = c .before in
-    let side = told .before .before in
-    let start = side .before .before .before in
-    list-chosen (start .args .self) _ _ (start .args .which) (start .args .size) (start .args .mode) _ _ (start .pre .0) (start .pre .1) _ (side .choose-side .ensures) (told .enum-told2 .given .1)
+none-found-requires-2 : tie.Need-none-found-requires-2
+none-found-requires-2 c κs = search needs
 
 enum-told-3 : tie.Need-enum-told-3
 enum-told-3 c = search needs
 
+find-in-list-requires : tie.Need-find-in-list-requires
+find-in-list-requires c κs =
+    let side = c .before .before .before in
+    let told = side .before in
+    let check = told .before .before in
+    let arena = check .before in
+    let start = arena .before .before .before .before in
+    let a = start .args in
+    let ready = find-ready (a .self) _ _ (a .which) (a .size) _ _ (start .pre) _ (arena .arena .ensures) _ (check .check-find .ensures) (told .enum-told .given .1) in
+    list-chosen (a .self) _ _ (a .which) (a .size) (a .mode) _ _ (ready .0) (ready .1) _ (side .choose-side .ensures) (c .before .enum-told3 .given .1)
+
+enum-told-4 : tie.Need-enum-told-4
+enum-told-4 c = search needs
+
 find-in-block-requires : tie.Need-find-in-block-requires
 find-in-block-requires c κs =
-    let told = c .before in
-    let side = told .before .before in
-    let start = side .before .before .before in
-    block-chosen (start .args .self) _ _ (start .args .which) (start .args .size) (start .args .mode) _ _ (start .pre .0) (start .pre .1) _ (side .choose-side .ensures) (told .enum-told3 .given .1)
+    let side = c .before .before .before in
+    let told = side .before in
+    let check = told .before .before in
+    let arena = check .before in
+    let start = arena .before .before .before .before in
+    let a = start .args in
+    let ready = find-ready (a .self) _ _ (a .which) (a .size) _ _ (start .pre) _ (arena .arena .ensures) _ (check .check-find .ensures) (told .enum-told .given .1) in
+    block-chosen (a .self) _ _ (a .which) (a .size) (a .mode) _ _ (ready .0) (ready .1) _ (side .choose-side .ensures) (c .before .enum-told4 .given .1)
 
-returns : tie.Need-returns
-returns c =
-    let told = c .before in
-    let side = told .before .before in
-    let start = side .before .before .before in
-    find-2 (start .args .self) _ _ (start .args .which) (start .args .size) (start .args .mode) _ _ (start .pre .0) (start .pre .1) _ (side .choose-side .ensures) (told .enum-told .given .1) _ (c .none-found .ensures)
+returns-2 : tie.Need-returns-2
+returns-2 c =
+    let side = c .before .before .before in
+    let told = side .before in
+    let check = told .before .before in
+    let arena = check .before in
+    let start = arena .before .before .before .before in
+    let a = start .args in
+    let ready = find-ready (a .self) _ _ (a .which) (a .size) _ _ (start .pre) _ (arena .arena .ensures) _ (check .check-find .ensures) (told .enum-told .given .1) in
+    find-2 (a .self) _ _ (a .which) (a .size) (a .mode) _ _ (ready .0) (ready .1) _ (side .choose-side .ensures) (c .before .enum-told2 .given .1) _ (c .none-found2 .ensures)
 
 same-length : tie.Need-same-length
 same-length c = search needs
 
-returns-2 : tie.Need-returns-2
-returns-2 c =
+returns-3 : tie.Need-returns-3
+returns-3 c =
     let found = c .before .before in
-    let told = found .before .before in
-    let side = told .before .before in
-    let start = side .before .before .before in
-    find-list (start .args .self) _ _ (start .args .which) (start .args .size) (start .args .mode) _ _ (start .pre .0) (start .pre .1) _ (side .choose-side .ensures) (told .enum-told2 .given .1) _ _ (found .find-in-list .ensures)
+    let in-list = found .before .before in
+    let side = in-list .before .before in
+    let told = side .before in
+    let check = told .before .before in
+    let arena = check .before in
+    let start = arena .before .before .before .before in
+    let a = start .args in
+    let ready = find-ready (a .self) _ _ (a .which) (a .size) _ _ (start .pre) _ (arena .arena .ensures) _ (check .check-find .ensures) (told .enum-told .given .1) in
+    find-list (a .self) _ _ (a .which) (a .size) (a .mode) _ _ (ready .0) (ready .1) _ (side .choose-side .ensures) (in-list .enum-told3 .given .1) _ _ (found .find-in-list .ensures)
 
 same-length-2 : tie.Need-same-length-2
 same-length-2 c = search needs
 
-returns-3 : tie.Need-returns-3
-returns-3 c =
+returns-4 : tie.Need-returns-4
+returns-4 c =
     let found = c .before .before in
-    let told = found .before .before in
-    let side = told .before .before in
-    let start = side .before .before .before in
-    find-block (start .args .self) _ _ (start .args .which) (start .args .size) (start .args .mode) _ _ (start .pre .0) (start .pre .1) _ (side .choose-side .ensures) (told .enum-told3 .given .1) _ _ (found .find-in-block .ensures)
+    let in-block = found .before .before in
+    let side = in-block .before .before in
+    let told = side .before in
+    let check = told .before .before in
+    let arena = check .before in
+    let start = arena .before .before .before .before in
+    let a = start .args in
+    let ready = find-ready (a .self) _ _ (a .which) (a .size) _ _ (start .pre) _ (arena .arena .ensures) _ (check .check-find .ensures) (told .enum-told .given .1) in
+    find-block (a .self) _ _ (a .which) (a .size) (a .mode) _ _ (ready .0) (ready .1) _ (side .choose-side .ensures) (in-block .enum-told4 .given .1) _ _ (found .find-in-block .ensures)
 
 pub find-at-spec : {M : Type 1} → statement M
 find-at-spec =
     tie.close
     (tie.spec
-    choose-side-requires
+    arena-requires
+    check-find-requires
     enum-told
     none-found-requires
-    enum-told-2
-    find-in-list-requires
-    enum-told-3
-    find-in-block-requires
     returns
-    same-length
+    choose-side-requires
+    enum-told-2
+    none-found-requires-2
+    enum-told-3
+    find-in-list-requires
+    enum-told-4
+    find-in-block-requires
     returns-2
+    same-length
+    returns-3
     same-length-2
-    returns-3)
+    returns-4)
