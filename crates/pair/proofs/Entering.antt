@@ -14,10 +14,8 @@ use Rattle.model.specs.inner.Lists.{overlaps, holder}
 use Rattle.model.proofs.Totals.{total-insert}
 use Rattle.list_words.specs.inner.Surveys.{walkOf, kept-of}
 use Rattle.list_words.specs.declared.Spot as list-spot
-use Rattle.block_words.specs.inner.Surveys.{FirstReach}
-use Rattle.list_edits.specs.inner.Chains as chains
-use Rattle.list_edits.specs.inner.Chains.{metOf, Held, mayAsk}
 use Rattle.list_edits.specs.declared.ChainJoined as list-joined
+use Rattle.block_words.specs.inner.Surveys.{FirstReach}
 use Rattle.list_land.specs.Layout as list
 use Rattle.list_land.specs.inner.Parts as list-parts
 use Rattle.list_land.specs.declared.ListLand.{ListLand}
@@ -38,7 +36,7 @@ use Rattle.pair.specs.inner.Inserts.{flushedCounts, flushedNodes, enterL
 use Rattle.pair.specs.declared.Pair.{Pair}
 use Rattle.pair.specs.declared.insert.Counts.{Counts}
 use Rattle.pair.specs.declared.insert.Entered.{Entered}
-use Rattle.pair.proofs.LandEdits.{join-asks, join-done}
+use Rattle.pair.proofs.LandEdits.{JoinAsks, JoinGives, join-asks, join-done}
 
 -- THE FLUSH
 abbrev countsIn : ListLand → BlockLand → Counts
@@ -57,8 +55,7 @@ module _ (p : Pair) (ws : List ℕ) (y : units.Range) (s : list-spot.Spot) (k : 
     pub enter-left : Left a ws (p .list .head) (y .base) s
     enter-left = rw ea (k .left)
 
-    pub enter-asks : (t : list-spot.Spot) → t ≡ kept-of (Aim.Reach (y .base)) (walkOf a ws (p .list .head .0) .met) →
-        Held a ws (list-parts.chainIn (p .list)) (Aim.Reach (y .base)) t × ((mayAsk a y ≡ true) × (overlaps (y .base .0) (y .limit .0) (metOf a ws (list-parts.chainIn (p .list))) ≡ false))
+    pub enter-asks : (t : list-spot.Spot) → t ≡ kept-of (Aim.Reach (y .base)) (walkOf a ws (p .list .head .0) .met) → JoinAsks a ws (list-parts.chainIn (p .list)) y t
     enter-asks t et =
         let u : t ≡ kept-of (Aim.Reach (y .base)) (list.walkOf (p .list) ws .met) = rw ea at et in
         join-asks (p .list) ws y a ea (list-parts.chainIn (p .list)) refl t (record { good = k .good; whole = k .whole; kept = u }) (k .asked) (k .clear)
@@ -66,8 +63,7 @@ module _ (p : Pair) (ws : List ℕ) (y : units.Range) (s : list-spot.Spot) (k : 
     abbrev listed : list-joined.ChainJoined → Entered
     listed j = record { counts = record { chain = j .chain; ranges = p .block .ranges; bytes = p .block .bytes }; range = j .range }
 
-    pub enter-listed : (j : list-joined.ChainJoined) (ws' : List ℕ) →
-        (j ≡ chains.joinedOf (metOf a ws (list-parts.chainIn (p .list))) y) × (ws' ≡ chains.joinedWords (metOf a ws (list-parts.chainIn (p .list))) y (a .base .0) ws) →
+    pub enter-listed : (j : list-joined.ChainJoined) (ws' : List ℕ) → JoinGives a ws (list-parts.chainIn (p .list)) y j ws' →
         (listed j ≡ enterList p ws y) × (ws' ≡ enterWords p ws y)
     enter-listed j ws' e = let d = join-done (p .list) ws y a ea (list-parts.chainIn (p .list)) refl j ws' e in (ap listed (d .0), d .1)
 

@@ -26,10 +26,8 @@ use Rattle.model.proofs.Surrounding.{Held, held}
 use Rattle.list_words.specs.Laying.{lay}
 use Rattle.list_words.specs.declared.Chain.{Chain}
 use Rattle.list_words.specs.declared.Spot.{Spot}
-use Rattle.list_edits.specs.inner.Chains as chains
-use Rattle.list_edits.specs.inner.Chains.{metOf, mayAsk}
 use Rattle.list_land.specs.Layout as list
-use Rattle.list_land.specs.inner.Parts.{arenaIn, chainIn, reachBase, reachLimit}
+use Rattle.list_land.specs.inner.Parts.{arenaIn, chainIn, reachLimit}
 use Rattle.list_land.specs.declared.ListLand.{ListLand}
 use Rattle.block_words.specs.Words.{capacity, fill}
 use Rattle.block_words.specs.declared.Entry.{Entry}
@@ -52,7 +50,7 @@ use Rattle.pair.proofs.Calling.{apart, list-looked, flush-checked}
 use Rattle.pair.proofs.Checking.{same-up}
 use Rattle.pair.proofs.Asking.{block-fine, readable, order}
 use Rattle.pair.proofs.DeleteAnswers.{Deletes, does}
-use Rattle.pair.proofs.LandEdits.{join-asks}
+use Rattle.pair.proofs.LandEdits.{JoinAsks, join-asks}
 use Rattle.pair.proofs.ReachedHere.{reach-holder, entry-reach}
 
 module _ (p : Pair) (ws vs : List ℕ) (y : units.Range) (s : Spot) (e : Entry) (k : Spilling p ws vs y s e) where
@@ -146,8 +144,7 @@ module _ (p : Pair) (ws vs : List ℕ) (y : units.Range) (s : Spot) (e : Entry) 
     is-upper : u ≡ rangeOf l (q .limit)
     is-upper = eu ∙ ap (λ (r : units.Range). rangeOf l (r .limit .0)) q-here
 
-    pub over-asks : (t : arenas.Arena) → t ≡ arenaIn (p .list) → (c : Chain) → c ≡ chainIn (p .list) →
-        chains.Held t ws c (reachBase u) s × ((mayAsk t u ≡ true) × (overlaps (u .base .0) (u .limit .0) (metOf t ws c) ≡ false))
+    pub over-asks : (t : arenas.Arena) → t ≡ arenaIn (p .list) → (c : Chain) → c ≡ chainIn (p .list) → JoinAsks t ws c u s
     over-asks t et c ec =
         join-asks (p .list) ws u t et c ec s
         (rw is-upper (list-looked p ws vs (reachLimit y) s e (asked .checked))) (rw is-upper upper-good) (rw is-upper upper-apart)

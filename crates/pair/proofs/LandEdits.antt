@@ -29,6 +29,13 @@ use Rattle.block_land.specs.declared.BlockLand.{BlockLand}
 use Rattle.block_land.proofs.Requests.{closes, whole}
 use Rattle.pair.specs.inner.Editing.{listLess, listMore, tableLess, TakingListed, TakingTabled}
 
+-- what `join_at` of the list's edits requires and ensures
+abbrev pub JoinAsks : Arena → List ℕ → Chain → units.Range → Spot → Type 0
+JoinAsks a ws c y s = Held a ws c (reachBase y) s × ((mayAsk a y ≡ true) × (overlaps (y .base .0) (y .limit .0) (metOf a ws c) ≡ false))
+
+abbrev pub JoinGives : Arena → List ℕ → Chain → units.Range → ChainJoined → List ℕ → Type 0
+JoinGives a ws c y j ws' = (j ≡ joinedOf (metOf a ws c) y) × (ws' ≡ joinedWords (metOf a ws c) y (a .base .0) ws)
+
 -- the arena and the chain that the code passes on are those of the list
 module _ (h : ListLand) (ws : List ℕ) (y : units.Range) (a : Arena) (ea : a ≡ arenaIn h) (c : Chain) (ec : c ≡ chainIn h) where
   abbrev met : List Range
@@ -36,16 +43,14 @@ module _ (h : ListLand) (ws : List ℕ) (y : units.Range) (a : Arena) (ea : a �
 
   -- A RANGE PUT INTO THE LIST
   pub join-asks : (s : Spot) → Looked h ws (reachBase y) s → good-range (list.arenaOf h) (y .base .0) (y .limit .0) ≡ true →
-      overlaps (y .base .0) (y .limit .0) (list.walkOf h ws .met) ≡ false →
-      Held a ws c (reachBase y) s × ((mayAsk a y ≡ true) × (overlaps (y .base .0) (y .limit .0) (metOf a ws c) ≡ false))
+      overlaps (y .base .0) (y .limit .0) (list.walkOf h ws .met) ≡ false → JoinAsks a ws c y s
   join-asks s k g o = (list-requests.looked-held h ws (reachBase y) s k a ea c ec, (rw ea g, rw (ea, ec) o))
 
-  pub join-done : (j : ChainJoined) (ws' : List ℕ) → (j ≡ joinedOf (metOf a ws c) y) × (ws' ≡ joinedWords (metOf a ws c) y (a .base .0) ws) →
-      (j ≡ joinedOf (list.walkOf h ws .met) y) × (ws' ≡ lay (list.base h) (listMore h ws y) ws)
+  pub join-done : (j : ChainJoined) (ws' : List ℕ) → JoinGives a ws c y j ws' → (j ≡ joinedOf (list.walkOf h ws .met) y) × (ws' ≡ lay (list.base h) (listMore h ws y) ws)
   join-done j ws' e = rw (ea, ec) at e
 
   -- and the list closed
-  pub join-closed : (j : ChainJoined) (ws' : List ℕ) → (j ≡ joinedOf (metOf a ws c) y) × (ws' ≡ joinedWords (metOf a ws c) y (a .base .0) ws) →
+  pub join-closed : (j : ChainJoined) (ws' : List ℕ) → JoinGives a ws c y j ws' →
       (z : ListLand) → z ≡ closedWith h (j .chain .head) (j .chain .ranges) (j .chain .bytes) →
       (z ≡ list.closed h (listMore h ws y)) × (ws' ≡ lay (list.base h) (listMore h ws y) ws)
   join-closed j ws' e z ez =

@@ -85,10 +85,10 @@ impl Pair {
             ranges: rest.ranges,
             bytes,
         };
-        let fresh = joined.range;
+        let whole = joined.range;
         Entered {
             counts,
-            range: fresh,
+            range: whole,
         }
     }
 
