@@ -39,9 +39,6 @@ glue-onto : (b : ℕ) (cur : List ℕ) (ps : List (List ℕ)) → onto b (glue c
 glue-onto b cur [] = refl
 glue-onto b cur (p ∷ ps) = refl
 
-pub split-newline : (more : List ℕ) → split newline (newline ∷ more) ≡ [] ∷ split newline more
-split-newline more = refl
-
 -- bytes of one line in front of a text
 pub split-part : (l more : List ℕ) → every in-line l ≡ true → split newline (l ++ more) ≡ glue l (split newline more)
 split-part [] more e = glue-none (split newline more) (split-some newline more)

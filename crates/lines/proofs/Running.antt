@@ -101,8 +101,5 @@ begun-more : (r : Reader) (bs : List ℕ) → begun-in r ≡ true → begun-in (
 begun-more r [] e = e
 begun-more r (b ∷ bs) e = begun-more (next-of r b) bs (begun-next r b)
 
-pub begun-none : begun-in at-start ≡ false
-begun-none = refl
-
 pub begun-some : (b : ℕ) (bs : List ℕ) → begun-in (read-more at-start (b ∷ bs)) ≡ true
 begun-some b bs = begun-more (next-of at-start b) bs (begun-next at-start b)

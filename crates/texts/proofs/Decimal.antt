@@ -2,23 +2,16 @@
 use Prim.Native.Nat.{ℕ, zero, suc, _+_, _-_, _*_, _/_, _%_, _^_, _≤_, _<_}
 use mathlib.Core.Bool.{true}
 use mathlib.Core.List.{List, [], _∷_}
-use mathlib.Core.Logic.{_≢_}
 use mathlib.Core.Option.{some}
 use mathlib.Core.Path.{_≡_, refl, ap, _∙_}
 use native.Mathlib.Omega.{arith}
 use native.Mathlib.Nat.{pow-suc}
 use lib.Dec.{ltb}
-use lib.ListN.{length, getD}
+use lib.ListN.{length}
 use borrow.Author.Tests.{le-leb, lt-ltb}
 use Rattle.units.proofs.Tests.{by, tests}
 use Rattle.lines.specs.Requests.{word-limit, every, is-digit, value-from, number}
 use Rattle.texts.specs.Decimal.{spelled, behind-first, decimal}
-
--- no zero in front
-spell-lead : (k n : ℕ) (t : List ℕ) → 0 < n → getD (spelled k n t) 0 0 ≢ 48
-spell-lead zero n t p = λ e. omega arith
-spell-lead (suc k) n t p =
-    by (ltb n 10) (λ q. rw q (λ e. omega arith)) (λ q. rw q (spell-lead k (n / 10) _ (omega tests)))
 
 -- the value
 value-first : (b n : ℕ) (t : List ℕ) → 0 * 10 + (b - 48) ≡ n → value-from 0 (b ∷ t) ≡ value-from n t
@@ -81,8 +74,3 @@ number-of n (b ∷ bs) k d v m = rw (d, v, lt-ltb n word-limit m)
 
 pub decimal-number : (n : ℕ) → n < word-limit → number (decimal n) ≡ some n
 decimal-number n m = number-of n (decimal n) (decimal-some n) (decimal-digits n m) (decimal-value n) m
-
--- and has no zero in front
-pub decimal-lead : (n : ℕ) → 0 < n → getD (decimal n) 0 0 ≢ 48
-unfolding decimal
-decimal-lead n p = spell-lead behind-first n [] p
