@@ -109,7 +109,7 @@ module _ (a : Arena) (ws : List ℕ) (ready : Ready a (length ws)) (head : ℕ) 
     abbrev Kept : Type 0
     Kept = SeeksBeside a ws head vs n (kept-of aim) q
 
-    pub first-nothing : aim ≡ Aim.Nothing → x .0 ≡ 0 → y .0 ≡ 0 → z .0 ≡ 18446744073709551615 → Kept
+    pub first-nothing : aim ≡ Aim.Nothing → x .0 ≡ 18446744073709551615 → y .0 ≡ 0 → z .0 ≡ 0 → Kept
     first-nothing e ex ey ez = by-goal (record { reach = x; from = y; size = z }) (goal-of-nothing x y z aim e ex ey ez) q i
 
     pub first-reach : (v : Addr) → aim ≡ Aim.Reach v → x ≡ v → y .0 ≡ 0 → z .0 ≡ 0 → Kept

@@ -91,7 +91,7 @@ fn seek(
     SoughtBeside::At(Spot::behind(prev), cur, i)
 }
 
-// The walk of an aim that keeps the first range that it takes, up to that range. No range has 2^64 - 1 bytes.
+// The walk of an aim that keeps the first range that it takes, up to that range. No limit reaches 2^64 - 1.
 fn first(arena: Arena, words: &[u64], head: Addr, nodes: &[u64], n: usize, aim: Aim) -> SoughtBeside
     requires { ⌜ Ready arena (length (now words)) ⌝ }
     requires { ⌜ Rising (now nodes) n ⌝ }
@@ -103,7 +103,7 @@ fn first(arena: Arena, words: &[u64], head: Addr, nodes: &[u64], n: usize, aim: 
     let size = Size::new(0);
     match aim {
         Aim::Nothing => {
-            let size = Size::new(18446744073709551615);
+            let reach = Addr::new(18446744073709551615);
             seek(arena, words, head, nodes, n, Goal { reach, from, size })
         }
         Aim::Reach(reach) => seek(arena, words, head, nodes, n, Goal { reach, from, size }),
