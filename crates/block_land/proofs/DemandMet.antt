@@ -10,7 +10,7 @@ use Rattle.block_words.specs.Words.{fill}
 use Rattle.block_words.proofs.Filling.{length-fill}
 use Rattle.block_land.specs.Layout.{setUp, layout}
 use Rattle.block_land.specs.Calls.{newLand, openedOf, openedWords}
-use Rattle.block_land.specs.Demand.{BlockDemand3}
+use Rattle.block_land.specs.Claims.{BlockDemand3}
 use Rattle.block_land.proofs.LayoutLaws.{read-filled, block-laws}
 
 pub record Opens (b l a : ℕ) (ws : List ℕ) : Type 0 where

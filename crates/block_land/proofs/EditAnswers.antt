@@ -23,8 +23,8 @@ use Rattle.block_edits.specs.inner.Edits.{editedNumber, edited, editedWords, pu
 use Rattle.block_edits.specs.declared.TableEdited.{TableEdited}
 use Rattle.block_edits.proofs.Answered.{edited-number, edited-bad, edited-full, edited-done}
 use Rattle.block_land.specs.Calls.{does, inserted, deleted, changed}
-use Rattle.block_land.specs.Layout.{base, limit, arenaOf, tableOf}
-use Rattle.block_land.specs.inner.Parts.{closedWith, Looked, reachBase, reachLimit, refusedBy}
+use Rattle.block_land.specs.Layout.{base, limit, arenaOf, tableOf, closedWith}
+use Rattle.block_land.specs.inner.Parts.{Looked, reachBase, reachLimit, refusedBy}
 use Rattle.block_land.specs.declared.BlockLand.{BlockLand}
 use Rattle.block_land.specs.declared.Changed.{Changed}
 use Rattle.block_land.proofs.Land.{block-land}

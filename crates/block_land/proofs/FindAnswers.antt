@@ -17,8 +17,8 @@ use Rattle.units.specs.declared.Which.{Which}
 use Rattle.units.specs.declared.rules.Arena.{Arena}
 use Rattle.units.proofs.Mode as mode-type
 use Rattle.model.specs.Calls.{good-size}
-use Rattle.model.specs.inner.Lists.{delete-from}
-use Rattle.model.specs.Marks.{struct, plain, total}
+use Rattle.model.specs.inner.Lists.{delete-from, plain}
+use Rattle.model.specs.Marks.{struct, total}
 use Rattle.model.specs.inner.Steps.{part}
 use Rattle.model.proofs.FindAnswers as answers
 use Rattle.model.proofs.FindAnswers.{find-long, find-part, find-fewer}
@@ -32,8 +32,8 @@ use Rattle.block_edits.specs.inner.Edits.{remaining}
 use Rattle.block_edits.specs.inner.Places.{Holding}
 use Rattle.block_edits.proofs.Entering.{Numbered, kept-numbered}
 use Rattle.block_land.specs.Calls.{found, foundOf}
-use Rattle.block_land.specs.Layout.{base, limit, align, arenaOf, tableOf}
-use Rattle.block_land.specs.inner.Parts.{arenaIn, closedWith, Readable, Looked, findAim}
+use Rattle.block_land.specs.Layout.{base, limit, align, arenaOf, tableOf, closedWith}
+use Rattle.block_land.specs.inner.Parts.{arenaIn, Readable, Looked, findAim}
 use Rattle.block_land.specs.declared.BlockLand.{BlockLand}
 use Rattle.block_land.proofs.Land.{block-land}
 use Rattle.block_land.proofs.Requests.{readable, closes, whole, sorted}

@@ -1,31 +1,36 @@
 -- The block land, as the laws on answers of `model` take it. Assumes nothing.
 use Prim.Native.Nat.{ℕ}
-use mathlib.Core.Bool.{cond}
+use mathlib.Core.Bool.{cond, _&&_}
 use mathlib.Core.List.{List}
 use mathlib.Core.Option.{none}
 use mathlib.Core.Path.{_≡_, refl, _∙_}
+use Rattle.units.specs.Rules.{goodArena}
 use Rattle.units.specs.declared.aims.Aim.{Aim}
 use Rattle.model.specs.Calls.{Call}
 use Rattle.model.specs.Lands.{land-call}
 use Rattle.model.specs.Layouts.{reading}
 use Rattle.model.proofs.Aiming.{picked-by}
-use Rattle.model.proofs.Land.{Land}
+use Rattle.model.proofs.Land.{Land, check-of}
 use Rattle.block_words.specs.inner.Surveys.{entryOf}
 use Rattle.block_words.specs.declared.Entry.{Entry}
 use Rattle.block_edits.proofs.Entering.{entry-here}
 use Rattle.block_land.specs.Calls.{does}
-use Rattle.block_land.specs.Layout.{setUp, sound, tableOf, readOf, layout}
+use Rattle.block_land.specs.Layout.{lent, setUp, sound, tableOf, readOf, layout}
 use Rattle.block_land.specs.inner.Parts.{arenaIn, lookNumber, lookOf}
 use Rattle.block_land.specs.declared.BlockLand.{BlockLand}
 use Rattle.block_land.specs.declared.Changed.{Changed}
 use Rattle.block_land.specs.declared.Found.{Found}
 use Rattle.block_land.specs.declared.Look.{Look}
 use Rattle.block_land.proofs.LayoutLaws.{block-laws, handle-back, words-back}
-use Rattle.block_land.proofs.Sound.{placed, fine}
+use Rattle.block_land.proofs.Sound.{fine}
 
 pub is-call : (c : Call) (h : BlockLand) (ws : List ℕ) → does c h ws ≡ land-call layout c h ws
 unfolding does
 is-call c h ws = refl
+
+pub set-up-is : (h : BlockLand) (ws : List ℕ) → setUp h ws ≡ goodArena (check-of (arenaIn h)) && lent ws
+unfolding setUp
+set-up-is h ws = refl
 
 pub reads-as : (h : BlockLand) (ws : List ℕ) → readOf h ws ≡ reading (setUp h ws) (sound h ws) (tableOf h ws)
 unfolding readOf
@@ -42,6 +47,7 @@ same s t e = cc
 abbrev pub block-land : Land BlockLand Look Entry Changed Found
 block-land = record {
   layout = layout;
+  lent = λ h ws. lent ws;
   set-up = setUp;
   sound = sound;
   ranges = tableOf;
@@ -59,9 +65,9 @@ block-land = record {
   does = does;
   is-call = is-call;
   laws = block-laws;
+  set-up-is = set-up-is;
   reads = reads-as;
   arena-is = λ h ws. refl;
-  above = λ h ws g. placed h ws g .arena .above;
   number-bad = refl;
   number-damaged = refl;
   number-whole = λ s. refl;

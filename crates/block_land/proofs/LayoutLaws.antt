@@ -1,10 +1,11 @@
 -- The block land's layout keeps the laws of a layout. Assumes nothing.
-use Prim.Native.Nat.{ℕ, zero, suc, _*_, _≤_}
+use Prim.Native.Nat.{ℕ, zero, suc, _+_, _*_, _≤_}
 use mathlib.Core.Bool.{true}
 use mathlib.Core.List.{List, [], _∷_}
 use mathlib.Core.Path.{_≡_, refl, sym, ap, _∙_}
 use native.Mathlib.Omega.{arith}
-use lib.ListN.{length, drop}
+use lib.ListN.{length, drop, length-drop}
+use lib.Seq.{getD-drop}
 use borrow.Author.Tests.{eq-eqb, le-leb, leb-true}
 use Rattle.model.specs.Marks.{Range, total}
 use Rattle.model.specs.inner.Lists.{Apart, Aligned}
@@ -64,52 +65,46 @@ pub words-back : (h : BlockLand) (ws : List ℕ) → Fine h ws → fill (tableOf
 words-back h ws f = fill-pairs ws (h .ranges) (f .fits) (f .clean)
 
 -- the same pair words are read alike
-same-length : (ws vs : List ℕ) → SamePairs ws vs → length vs ≡ length ws
-same-length [] [] m = refl
-same-length [] (v ∷ vs) m = absurd m
-same-length (w ∷ ws) [] m = absurd m
-same-length (w ∷ []) (v ∷ []) m = refl
-same-length (w ∷ []) (v ∷ v' ∷ vs) m = absurd m
-same-length (w ∷ w' ∷ ws) (v ∷ []) m = absurd m
-same-length (w ∷ w' ∷ ws) (v ∷ v' ∷ vs) m = ap (λ (n : ℕ). suc (suc n)) (same-length ws vs (m .2))
+same-next : (w w' v v' : ℕ) (ws vs : List ℕ) → SamePairs (w ∷ w' ∷ ws) (v ∷ v' ∷ vs) → (v ≡ w) × (v' ≡ w') × SamePairs ws vs
+same-next w w' v v' ws vs m =
+    let n : suc (suc (length vs)) ≡ suc (suc (length ws)) = m .0 in
+    (m .1 0 (omega arith), m .1 1 (omega arith), (omega arith, λ i k. m .1 (suc (suc i)) (omega arith)))
+
+longer : {P : Type 0} {n : ℕ} → suc n ≡ 0 → P
+longer e = absurd (omega arith)
+
+less-one : {m n : ℕ} → suc m ≡ suc n → m ≡ n
+less-one e = omega arith
 
 same-table : (ws vs : List ℕ) (n : ℕ) → SamePairs ws vs → pairs vs n ≡ pairs ws n
 same-table ws vs zero m = refl
 same-table [] [] (suc n) m = refl
-same-table [] (v ∷ vs) (suc n) m = absurd m
-same-table (w ∷ ws) [] (suc n) m = absurd m
+same-table [] (v ∷ vs) (suc n) m = longer (m .0)
+same-table (w ∷ ws) [] (suc n) m = longer (sym (m .0))
 same-table (w ∷ []) (v ∷ []) (suc n) m = refl
-same-table (w ∷ []) (v ∷ v' ∷ vs) (suc n) m = absurd m
-same-table (w ∷ w' ∷ ws) (v ∷ []) (suc n) m = absurd m
-same-table (w ∷ w' ∷ ws) (v ∷ v' ∷ vs) (suc n) m = rw (m .0, m .1, same-table ws vs n (m .2))
+same-table (w ∷ []) (v ∷ v' ∷ vs) (suc n) m = longer (less-one (m .0))
+same-table (w ∷ w' ∷ ws) (v ∷ []) (suc n) m = longer (less-one (sym (m .0)))
+same-table (w ∷ w' ∷ ws) (v ∷ v' ∷ vs) (suc n) m = let s = same-next w w' v v' ws vs m in rw (s .0, s .1, same-table ws vs n (s .2))
 
-same-clear : (ws vs : List ℕ) → SamePairs ws vs → all-zero vs ≡ all-zero ws
-same-clear [] [] m = refl
-same-clear [] (v ∷ vs) m = absurd m
-same-clear (w ∷ ws) [] m = absurd m
-same-clear (w ∷ []) (v ∷ []) m = refl
-same-clear (w ∷ []) (v ∷ v' ∷ vs) m = absurd m
-same-clear (w ∷ w' ∷ ws) (v ∷ []) m = absurd m
-same-clear (w ∷ w' ∷ ws) (v ∷ v' ∷ vs) m = rw (m .0, m .1, same-clear ws vs (m .2))
+same-zero : (ws vs : List ℕ) → SamePairs ws vs → all-zero vs ≡ all-zero ws
+same-zero [] [] m = refl
+same-zero [] (v ∷ vs) m = longer (m .0)
+same-zero (w ∷ ws) [] m = longer (sym (m .0))
+same-zero (w ∷ []) (v ∷ []) m = refl
+same-zero (w ∷ []) (v ∷ v' ∷ vs) m = longer (less-one (m .0))
+same-zero (w ∷ w' ∷ ws) (v ∷ []) m = longer (less-one (sym (m .0)))
+same-zero (w ∷ w' ∷ ws) (v ∷ v' ∷ vs) m = let s = same-next w w' v v' ws vs m in rw (s .0, s .1, same-zero ws vs (s .2))
 
-same-tail : (ws vs : List ℕ) (n : ℕ) → SamePairs ws vs → all-zero (drop (2 * n) vs) ≡ all-zero (drop (2 * n) ws)
-same-tail ws vs zero m = same-clear ws vs m
-same-tail [] [] (suc n) m = refl
-same-tail [] (v ∷ vs) (suc n) m = absurd m
-same-tail (w ∷ ws) [] (suc n) m = absurd m
-same-tail (w ∷ []) (v ∷ []) (suc n) m = let e : 2 * suc n ≡ suc (suc (2 * n)) = omega arith in rw e
-same-tail (w ∷ []) (v ∷ v' ∷ vs) (suc n) m = absurd m
-same-tail (w ∷ w' ∷ ws) (v ∷ []) (suc n) m = absurd m
-same-tail (w ∷ w' ∷ ws) (v ∷ v' ∷ vs) (suc n) m = let e : 2 * suc n ≡ suc (suc (2 * n)) = omega arith in rw e (same-tail ws vs n (m .2))
+same-drop : (ws vs : List ℕ) (n : ℕ) → SamePairs ws vs → SamePairs (drop (2 * n) ws) (drop (2 * n) vs)
+same-drop ws vs n m =
+    let lv = length-drop (2 * n) vs in
+    let lw = length-drop (2 * n) ws in
+    let l = m .0 in
+    (omega arith, λ i k. getD-drop (2 * n) vs i 0 ∙ m .1 (2 * n + i) (omega arith) ∙ sym (getD-drop (2 * n) ws i 0))
 
 same-read : (h : BlockLand) (ws vs : List ℕ) → SamePairs ws vs → readOf h vs ≡ readOf h ws
 unfolding readOf setUp sound soundTable
-same-read h ws vs m = rw (same-length ws vs m, same-table ws vs (h .ranges) m, same-tail ws vs (h .ranges) m)
-
-same-self : (ws : List ℕ) → SamePairs ws ws
-same-self [] = tt
-same-self (w ∷ []) = tt
-same-self (w ∷ v ∷ ws) = (refl, refl, same-self ws)
+same-read h ws vs m = rw (m .0, same-table ws vs (h .ranges) m, same-zero (drop (2 * h .ranges) ws) (drop (2 * h .ranges) vs) (same-drop ws vs (h .ranges) m))
 
 pub block-laws : LandLaws layout
 block-laws = record {
@@ -131,6 +126,6 @@ block-laws = record {
       read-filled h ws rs' (p .good) (c .apart) (c .aligned) (leb-true (length rs') (capacity ws) (f .room));
   arena-write = λ h ws rs. rw (length-fill rs ws);
   read-host = λ h ws ws' rs e m. same-read h ws ws' m ∙ e;
-  arena-host = λ h ws ws' m. rw (same-length ws ws' m);
-  host-idle = λ h ws. same-self ws;
+  arena-host = λ h ws ws' m. rw (m .0);
+  host-idle = λ h ws. (refl, λ i k. refl);
 }

@@ -20,8 +20,8 @@ use Rattle.block_words.specs.inner.Surveys.{FirstReach}
 use Rattle.block_words.specs.declared.Entry.{Entry}
 use Rattle.block_edits.specs.inner.Edits.{Sorted}
 use Rattle.block_edits.proofs.Entering.{reach-spot}
-use Rattle.block_land.specs.Layout.{base, limit, arenaOf, tableOf, closed}
-use Rattle.block_land.specs.inner.Parts.{arenaIn, closedWith, Readable, Looked}
+use Rattle.block_land.specs.Layout.{base, limit, arenaOf, tableOf, closed, closedWith}
+use Rattle.block_land.specs.inner.Parts.{arenaIn, Readable, Looked}
 use Rattle.block_land.specs.declared.BlockLand.{BlockLand}
 use Rattle.block_land.proofs.Sound.{Fine, fine, placed}
 

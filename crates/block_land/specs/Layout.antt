@@ -1,12 +1,13 @@
 -- How a block handle and node space stand for a list of ranges. Assumes nothing.
-use Prim.Native.Nat.{ℕ}
+use Prim.Native.Nat.{ℕ, _*_, _<_}
 use mathlib.Core.Bool.{Bool, _&&_}
-use mathlib.Core.List.{List, [], _∷_}
+use mathlib.Core.List.{List}
 use mathlib.Core.Option.{some}
 use mathlib.Core.Path.{_≡_}
 use lib.Dec.{leb}
-use lib.ListN.{length}
+use lib.ListN.{length, getD}
 use Rattle.units.specs.Rules.{arenaCheck, goodArena}
+use Rattle.units.specs.declared.Size.{Size}
 use Rattle.model.specs.Marks.{Range, total}
 use Rattle.model.specs.Calls.{Arena}
 use Rattle.model.specs.Layouts.{Reading, reading}
@@ -46,19 +47,17 @@ tableOf h ws = pairs ws (h .ranges)
 unfoldable pub readOf : BlockLand → List ℕ → Reading (List Range)
 readOf h ws = reading (setUp h ws) (sound h ws) (tableOf h ws)
 
+-- The handle with other counts.
+abbrev pub closedWith : BlockLand → ℕ → Size → BlockLand
+closedWith h n s = record { base = h .base; limit = h .limit; align = h .align; ranges = n; bytes = s }
+
 -- The handle after an accepted call: the number of ranges and of free bytes.
 abbrev pub closed : BlockLand → List Range → BlockLand
-closed h rs = record { base = h .base; limit = h .limit; align = h .align; ranges = length rs; bytes = record { 0 = total rs } }
+closed h rs = closedWith h (length rs) (record { 0 = total rs })
 
 -- The same pair words. An odd last word may differ.
 abbrev pub SamePairs : List ℕ → List ℕ → Type 0
-SamePairs [] [] = Unit {0}
-SamePairs [] (v ∷ vs) = ⊥
-SamePairs (w ∷ ws) [] = ⊥
-SamePairs (w ∷ []) (v ∷ []) = Unit {0}
-SamePairs (w ∷ []) (v ∷ v' ∷ vs) = ⊥
-SamePairs (w ∷ w' ∷ ws) (v ∷ []) = ⊥
-SamePairs (w ∷ w' ∷ ws) (v ∷ v' ∷ vs) = (w ≡ v) × (w' ≡ v') × SamePairs ws vs
+SamePairs ws ws' = (length ws' ≡ length ws) × ((i : ℕ) → i < 2 * capacity ws → getD ws' i 0 ≡ getD ws i 0)
 
 -- Between calls the host writes no pair word.
 abbrev pub layout : LandLayout BlockLand

@@ -1,5 +1,4 @@
 pub mod Layout
 pub mod Calls
-pub mod Right
-pub mod Demand
+pub mod Claims
 pub mod inner

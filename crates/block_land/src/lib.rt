@@ -19,10 +19,11 @@ use units::SetUp;
 use units::Size;
 ghost use mathlib.Core.Bool.{true};
 ghost use mathlib.Core.Path.{_≡_};
-ghost use Rattle.units.specs.Rules.{goodAlign, setUpOf};
-ghost use Rattle.block_land.specs.Layout.{lent, setUp};
+ghost use Rattle.units.specs.Rules.{goodAlign};
+ghost use Rattle.units.specs.inner.Parts.{setUpOf};
+ghost use Rattle.block_land.specs.Layout.{lent, setUp, closedWith};
 ghost use Rattle.block_land.specs.Calls.{changed, walked};
-ghost use Rattle.block_land.specs.inner.Parts.{arenaIn, lookNumber, lookOf, closedWith, refusedBy};
+ghost use Rattle.block_land.specs.inner.Parts.{arenaIn, lookNumber, lookOf, refusedBy};
 
 // The handle of a block land: its arena, the number of ranges and of free bytes.
 #[repr(C)]

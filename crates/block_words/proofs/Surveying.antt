@@ -8,7 +8,8 @@ use native.Mathlib.Omega.{arith}
 use lib.Dec.{leb}
 use lib.ListN.{length, drop}
 use borrow.Author.Tests.{le-leb, lt-leb, leb-true}
-use Rattle.units.specs.Rules.{soundnessOf, soundNumber}
+use Rattle.units.specs.Rules.{soundNumber}
+use Rattle.units.specs.inner.Parts.{soundnessOf}
 use Rattle.units.specs.declared.Size.{Size}
 use Rattle.units.specs.declared.aims.Aim.{Aim}
 use Rattle.units.specs.declared.rules.Arena.{Arena}

@@ -9,7 +9,7 @@ use lib.Bits.{bitAnd, bitOr, and-le-l, or-lt}
 use lib.Dec.{eqb}
 use lib.ListN.{length}
 use borrow.Author.Tests.{lt-leb, leb-true, leb-false}
-use Rattle.units.specs.Rules.{soundnessOf}
+use Rattle.units.specs.inner.Parts.{soundnessOf}
 use Rattle.units.specs.declared.Size.{Size}
 use Rattle.units.specs.declared.rules.Arena.{Arena}
 use Rattle.units.specs.declared.rules.Soundness.{Soundness}

@@ -8,7 +8,8 @@ use lib.Bits.{bitAnd, bitOr}
 use lib.Dec.{eqb, ltb, leb}
 use lib.ListN.{getD}
 use borrow.Author.Tests.{eq-eqb, ne-eqb, eqb-true, eqb-false, ltb-true, ltb-false, le-leb, lt-leb}
-use Rattle.units.specs.Rules.{multiple, goodAlign, soundnessOf}
+use Rattle.units.specs.Rules.{multiple, goodAlign}
+use Rattle.units.specs.inner.Parts.{soundnessOf}
 use Rattle.units.specs.Words.{rangeOf}
 use Rattle.units.specs.declared.Addr.{Addr}
 use Rattle.units.specs.declared.Align.{Align}

@@ -14,7 +14,7 @@ use units::Soundness;
 ghost use mathlib.Core.Path.{_≡_};
 ghost use Prim.Native.Nat.{_*_, _/_, _≤_, _<_};
 ghost use lib.ListN.{length, drop};
-ghost use Rattle.units.specs.Rules.{soundnessOf};
+ghost use Rattle.units.specs.inner.Parts.{soundnessOf};
 ghost use Rattle.block_words.specs.Words.{all-zero, soundTable};
 ghost use Rattle.block_words.specs.inner.Tallies.{pairAt, Ready};
 ghost use Rattle.block_words.specs.inner.Surveys.{tidy, surveyOf};

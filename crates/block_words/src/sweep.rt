@@ -7,7 +7,7 @@ use units::Soundness;
 ghost use mathlib.Core.Path.{_≡_};
 ghost use Prim.Native.Nat.{_/_, _≤_, _<_};
 ghost use lib.ListN.{length};
-ghost use Rattle.units.specs.Rules.{soundnessOf};
+ghost use Rattle.units.specs.inner.Parts.{soundnessOf};
 ghost use Rattle.block_words.specs.inner.Tallies.{Ready, below, startOf, sweptAt, verdictOf, soundPairs};
 
 // Where a sweep stands: the number of pairs met, the limit of the last, a number whose top bit is set exactly if all words

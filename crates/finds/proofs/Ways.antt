@@ -7,7 +7,8 @@ use Rattle.units.specs.declared.Mode.{Mode}
 use Rattle.units.specs.declared.Range.{Range}
 use Rattle.units.specs.declared.Size.{Size}
 use Rattle.units.specs.declared.Which.{Which}
-use Rattle.model.specs.Marks.{struct, plain}
+use Rattle.model.specs.Marks.{struct}
+use Rattle.model.specs.inner.Lists.{plain}
 use Rattle.model.specs.inner.Steps.{end-part, part}
 
 module _ (mode : Mode) (n : Size) (here : Range) where

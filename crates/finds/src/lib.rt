@@ -7,7 +7,8 @@ use units::Range;
 use units::Size;
 use units::Which;
 ghost use mathlib.Core.Path.{_≡_};
-ghost use Rattle.model.specs.Marks.{struct, plain};
+ghost use Rattle.model.specs.Marks.{struct};
+ghost use Rattle.model.specs.inner.Lists.{plain};
 ghost use Rattle.model.specs.inner.Steps.{end-part, part};
 ghost use Rattle.finds.specs.inner.Parts.{Within};
 

@@ -25,7 +25,6 @@ use Rattle.list_land.specs.Layout as list
 use Rattle.list_land.specs.inner.Parts as list-parts
 use Rattle.list_land.specs.declared.ListLand.{ListLand}
 use Rattle.block_land.specs.Layout as block
-use Rattle.block_land.specs.inner.Parts as block-parts
 use Rattle.block_land.specs.declared.BlockLand.{BlockLand}
 use Rattle.flush.specs.Flush.{refusal, checkOf, moves, done, flushed}
 use Rattle.transfers.specs.inner.Transfers.{Going, tableArena, flushOf, transferOf, transferWords}
@@ -133,8 +132,8 @@ module _ (h : ListLand) (ws : List ℕ) (k : BlockLand) (vs : List ℕ) (g : che
     unfolding transferWords
     words = e .1 ∙ ap (λ (x : Flush). fill (x .into) vs) same-flush
 
-    pub accepted : (lb : Size) → lb .0 ≡ h .bytes .0 - m .bytes .0 → (h' : ListLand) → h' ≡ list-parts.closedWith h (m .at) (h .ranges - m .moved) lb →
-        (kb : Size) → kb .0 ≡ k .bytes .0 + m .bytes .0 → (k' : BlockLand) → k' ≡ block-parts.closedWith k (m .count) kb →
+    pub accepted : (lb : Size) → lb .0 ≡ h .bytes .0 - m .bytes .0 → (h' : ListLand) → h' ≡ list.closedWith h (m .at) (h .ranges - m .moved) lb →
+        (kb : Size) → kb .0 ≡ k .bytes .0 + m .bytes .0 → (k' : BlockLand) → k' ≡ block.closedWith k (m .count) kb →
         (record { list = h'; block = k'; answer = 0; moved = m .moved; stop = m .stop } ≡ flushed h ws k vs .result) × (vs' ≡ flushed h ws k vs .nodes)
     accepted lb elb h' eh kb ekb k' ek =
         let d = is-accepted h ws k vs c in

@@ -9,7 +9,7 @@ use lib.Dec.{eqb}
 use types.Run.{OneOf}
 use denote.Enum.Declared.{tagOf}
 use borrow.Author.Tests.{not-true, not-false}
-use Rattle.units.specs.Rules.{setUpOf}
+use Rattle.units.specs.inner.Parts.{setUpOf}
 use Rattle.block_words.specs.declared.Entry.{Entry}
 use Rattle.units.specs.declared.aims.Aim.{Aim}
 use Rattle.units.specs.declared.rules.SetUp.{SetUp}

@@ -7,7 +7,7 @@ use list_land::ListLand;
 use units::Aim;
 use units::SetUp;
 ghost use mathlib.Core.Path.{_≡_};
-ghost use Rattle.units.specs.Rules.{setUpOf};
+ghost use Rattle.units.specs.inner.Parts.{setUpOf};
 ghost use Rattle.flush.specs.Flush.{sameArena, refusal, checkOf, flushed};
 ghost use Rattle.flush.specs.declared.FlushCheck.the-variants.{Good};
 

@@ -7,7 +7,8 @@ use mathlib.Core.Path.{_≡_, sym, ap, _∙_}
 use native.Mathlib.Omega.{arith}
 use lib.ListN.{length, length-append}
 use Rattle.units.specs.declared.Range as units
-use Rattle.units.specs.Words.{addr, one, rangeOf}
+use Rattle.units.specs.Words.{addr, rangeOf}
+use Rattle.units.specs.inner.Parts.{one}
 use Rattle.units.specs.declared.rules.Arena.{Arena}
 use Rattle.units.proofs.Alignments.{multiple-8}
 use Rattle.model.specs.Marks.{Range, total}

@@ -5,7 +5,8 @@ use mathlib.Core.List.{List, [], append-nil}
 use mathlib.Core.Path.{_≡_, sym, ap, ap₂, _∙_}
 use lib.Dec.{eqb}
 use lib.ListN.{length}
-use Rattle.units.specs.Words.{rangeOf, one}
+use Rattle.units.specs.Words.{rangeOf}
+use Rattle.units.specs.inner.Parts.{one}
 use Rattle.units.specs.declared.Addr.{Addr}
 use Rattle.units.specs.declared.Range.{Range}
 use Rattle.units.specs.declared.Size.{Size}
@@ -100,18 +101,18 @@ module _ (a : Arena) (ws : List ℕ) (c : Chain) (y : Range) (s : Spot) (k : Hel
       join-done w ws' q = (q .0 ∙ done .gives, q .1 ∙ done .words)
 
     module _ (f : j .overlaps ≡ false) where
-      clear : overlaps (y .base .0) (y .limit .0) (metOf a ws c) ≡ false
-      clear = sym at-place ∙ f
+      disjoint : overlaps (y .base .0) (y .limit .0) (metOf a ws c) ≡ false
+      disjoint = sym at-place ∙ f
 
       pub put-putting : Putting (a .base .0) (length ws) c y j
-      put-putting = join-putting clear
+      put-putting = join-putting disjoint
 
       pub put-done : (w : ChainJoined) (ws' : List ℕ) → (w ≡ joinDone c y j) × (ws' ≡ storeWords (a .base .0) ws (joinEdit j)) →
           (ChainEdited.Done (w .chain) (w .range) ≡ putOf (metOf a ws c) y) × (ws' ≡ putWords (metOf a ws c) y (a .base .0) ws)
       unfolding putOf putWords
       put-done w ws' q =
-          let d = join-done clear w ws' q in
-          (rw clear (ap (λ (v : ChainJoined). ChainEdited.Done (v .chain) (v .range)) (d .0)), rw clear (d .1))
+          let d = join-done disjoint w ws' q in
+          (rw disjoint (ap (λ (v : ChainJoined). ChainEdited.Done (v .chain) (v .range)) (d .0)), rw disjoint (d .1))
 
 -- A PART TAKEN OUT
 module _ (a : Arena) (ws : List ℕ) (c : Chain) (s : Spot) (y : Range) (k : Holding a ws c s y) (u v : Range)

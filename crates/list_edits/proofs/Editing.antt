@@ -11,8 +11,8 @@ use Rattle.units.specs.declared.Range as units
 use Rattle.units.specs.Words.{addr}
 use Rattle.units.specs.inner.Aims.{none-range}
 use Rattle.units.proofs.Tests.{by}
-use Rattle.model.specs.Marks.{Range, rng, struct, plain}
-use Rattle.model.specs.inner.Lists.{Apart, Aligned, piece}
+use Rattle.model.specs.Marks.{Range, rng, struct}
+use Rattle.model.specs.inner.Lists.{Apart, Aligned, piece, plain}
 use Rattle.model.proofs.Places.{apart-rest, aligned-rest}
 use Rattle.list_words.specs.Laying.{head-of, describe, lay}
 use Rattle.list_edits.specs.inner.Edits.{Room, PieceRoom, pieceHead, pieceWords, upperHead, firstHead, EditRoom, storeHead, pieces, storeWords}

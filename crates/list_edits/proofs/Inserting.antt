@@ -11,8 +11,8 @@ use Rattle.units.specs.Words.{addr, rangeOf}
 use Rattle.units.specs.declared.rules.Arena.{Arena}
 use Rattle.units.proofs.Alignments.{multiple-8}
 use Rattle.units.proofs.Facts.{GoodRange}
-use Rattle.model.specs.Marks.{Range, struct, plain, total}
-use Rattle.model.specs.inner.Lists.{overlaps, holder, insert-in}
+use Rattle.model.specs.Marks.{Range, struct, total}
+use Rattle.model.specs.inner.Lists.{overlaps, holder, insert-in, plain}
 use Rattle.model.proofs.Inserting.{insert-apart, insert-aligned}
 use Rattle.model.proofs.Places.{insert-front, overlaps-front, holder-front, holder-here}
 use Rattle.model.proofs.Totals.{total-insert}
@@ -50,11 +50,11 @@ module _ (a : Arena) (ws : List ℕ) (c : Chain) (f : Fine a ws c) (y : units.Ra
       ∙ ap (λ (v : Join). v .overlaps) (sym (t .place)))
 
   -- no byte of the request is free
-  module _ (j : Join) (e : j ≡ placeOf a ws y s) (clear : overlaps (y .base .0) (y .limit .0) (metOf a ws c) ≡ false) where
+  module _ (j : Join) (e : j ≡ placeOf a ws y s) (disjoint : overlaps (y .base .0) (y .limit .0) (metOf a ws c) ≡ false) where
     joined : ChainJoined (a .base .0) (t .x) b l ws (s .prev) (t .joins) (t .ups) j
     joined =
         let p : j ≡ joinOf (s .prev) (rangeOf (t .x) l) (t .joins) (t .above) = e ∙ t .place in
-        let o : joinOf (s .prev) (rangeOf (t .x) l) (t .joins) (t .above) .overlaps ≡ false = ap (λ (v : Join). v .overlaps) (sym (t .place)) ∙ sym insert-meets ∙ clear in
+        let o : joinOf (s .prev) (rangeOf (t .x) l) (t .joins) (t .above) .overlaps ≡ false = ap (λ (v : Join). v .overlaps) (sym (t .place)) ∙ sym insert-meets ∙ disjoint in
         rw p
         (joins-free (a .base .0) (t .x) b l ws (s .prev) (t .joins) (t .start) (rules .order) (t .lo) (a .limit .0) (t .ups) (t .above) (t .apart) (t .laid) (t .at-ups) o)
 
@@ -83,7 +83,7 @@ module _ (a : Arena) (ws : List ℕ) (c : Chain) (f : Fine a ws c) (y : units.Ra
         stored (a .base .0) (a .limit .0) (length ws) (f .base8) (f .place .words) (g .top) (joinEdit j) (joined .tail) (joined .next) ws (c .head) (t .old)
         (g .above) (joined .laid) (t .front) (rw (joined .prev) (t .last))
         (let u : head-of (t .front ++ t .old) ≡ c .head .0 = rw (t .split) at (f .head) in ap addr (sym u)) laid
-        (rw (insert-edited, ← insert-new) (insert-apart b l (a .base .0) (a .limit .0) met (rules .from) (rules .order) (rules .upto) clear (f .apart)))
+        (rw (insert-edited, ← insert-new) (insert-apart b l (a .base .0) (a .limit .0) met (rules .from) (rules .order) (rules .upto) disjoint (f .apart)))
         (rw (insert-edited, ← insert-new) (insert-aligned 8 b l met b8 l8 (f .aligned)))
 
     insert-count : (c .ranges + 1 - j .joins ≡ length (insert-in b l met)) × (j .joins ≤ c .ranges + 1)

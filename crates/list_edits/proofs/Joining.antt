@@ -11,8 +11,8 @@ use Rattle.units.specs.Words.{rangeOf, addr}
 use Rattle.units.specs.declared.Range as units
 use Rattle.units.specs.inner.Aims.{isNone, none-range}
 use Rattle.units.proofs.Tests.{by, clash, tests}
-use Rattle.model.specs.Marks.{Range, size, struct, plain, total}
-use Rattle.model.specs.inner.Lists.{Apart, overlaps, insert-in}
+use Rattle.model.specs.Marks.{Range, size, struct, total}
+use Rattle.model.specs.inner.Lists.{Apart, overlaps, insert-in, plain}
 use Rattle.model.proofs.Places.{overlaps-above, insert-apart-of, insert-join}
 use Rattle.list_words.specs.Laying.{head-of}
 use Rattle.list_words.specs.declared.Spot.{Spot}
@@ -73,8 +73,8 @@ module _ (base x b l : ℕ) (ws : List ℕ) (p : units.Range) (joins : ℕ) (xb 
     here-base : s .here .base .0 ≡ r .base
     here-base = ap (λ (v : units.Range). v .base .0) (a .0)
 
-    clear-of : l ≤ r .base → overlaps b l (r ∷ rs) ≡ false
-    clear-of k = overlaps-above b l bl l hi (r ∷ rs) (omega arith) (k, h .1, h .2, h .3)
+    disjoint-of : l ≤ r .base → overlaps b l (r ∷ rs) ≡ false
+    disjoint-of k = overlaps-above b l bl l hi (r ∷ rs) (omega arith) (k, h .1, h .2, h .3)
 
     join-some : Laid base (r ∷ rs) ws → joinOf p (rangeOf x l) joins s .overlaps ≡ false → Out (r ∷ rs) (joinOf p (rangeOf x l) joins s)
     join-some d o =
@@ -116,7 +116,7 @@ module _ (base x b l : ℕ) (ws : List ℕ) (p : units.Range) (joins : ℕ) (xb 
     join-meets k =
         by (ltb (s .here .base .0) l)
         (λ t. let m : r .base < l = omega (tests, here-base) in rw (here-some, t, lt-ltb (r .base) l m, lt-ltb b (r .limit) k))
-        (λ t. clear-of (omega (tests, here-base)) ∙ sym (no-overlap t))
+        (λ t. disjoint-of (omega (tests, here-base)) ∙ sym (no-overlap t))
       where
         no-overlap : ltb (s .here .base .0) l ≡ false → joinOf p (rangeOf x l) joins s .overlaps ≡ false
         no-overlap t = by (eqb (s .here .base .0) l) (λ u. rw (here-some, t, u)) (λ u. rw (here-some, t, u))

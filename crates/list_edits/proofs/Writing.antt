@@ -11,7 +11,8 @@ use Rattle.units.specs.Words.{wordNumber}
 use Rattle.units.specs.declared.Addr.{Addr}
 use Rattle.units.specs.declared.Range.{Range}
 use Rattle.units.proofs.Ways.{said-true, said-false}
-use Rattle.model.specs.Marks.{rng, plain}
+use Rattle.model.specs.Marks.{rng}
+use Rattle.model.specs.inner.Lists.{plain}
 use Rattle.list_words.specs.Laying.{describe}
 use Rattle.list_edits.specs.inner.Edits.{Room, RoomOf, PieceRoom, pieceHead, pieceWords, upperHead, firstHead, EditRoom, storeHead, pieces, storeWords}
 use Rattle.list_edits.specs.declared.Edit.{Edit}

@@ -5,6 +5,7 @@ use mathlib.Core.List.{List, [], _∷_}
 use mathlib.Core.Path.{_≡_, refl}
 use native.Mathlib.Omega.{arith}
 use lib.Dec.{eqb}
+use lib.ListN.{length, getD}
 use borrow.Author.Tests.{eqb-true, eqb-false, not-true}
 use Rattle.units.specs.Words.{wordNumber}
 use Rattle.units.proofs.Tests.{by, clash, and-left, and-right, or-second}
@@ -18,7 +19,7 @@ use Rattle.model.proofs.DemandMet.{demand-3}
 use Rattle.list_words.specs.Laying.{grain, described}
 use Rattle.list_land.specs.Layout.{base, setUp, readOf, layout}
 use Rattle.list_land.specs.Calls.{newLand, openedOf}
-use Rattle.list_land.specs.Demand.{ListDemand3, free-kept, OwnDemand3, HostMayWrite}
+use Rattle.list_land.specs.Claims.{ListDemand3, free-kept, OwnDemand3, free-word}
 use Rattle.list_land.specs.declared.ListLand.{ListLand}
 use Rattle.list_land.proofs.Sound.{placed, fine}
 use Rattle.list_land.proofs.LayoutLaws.{reads, read-laid, list-laws}
@@ -52,7 +53,9 @@ described-free b lo hi (r ∷ rs) i k z h a e =
     rw (in-yes (r .base) (r .limit) (b + 8 * i) (omega arith) (omega arith)))
     (λ g. rw (described-free b (suc (r .limit)) hi rs i (omega arith) z (h .3) (a .2) (or-second _ _ (or-second _ _ e f) g), or-true)))
 
-pub host-may-write : HostMayWrite
+-- what the host may write in the wider claim includes every word that is not free
+pub host-may-write : (h : ListLand) (ws ws' : List ℕ) (rs : List Range) → readOf h ws ≡ holding rs → length ws' ≡ length ws →
+    ((i : ℕ) → free-word h rs i ≡ true → getD ws' i 0 ≡ getD ws i 0) → layout .host h ws ws'
 host-may-write h ws ws' rs e n f =
     let p = reads h ws rs e in
     let g = fine h ws (p .good) (p .whole) in

@@ -15,8 +15,8 @@ use Rattle.list_edits.specs.inner.Chains.{metOf, Held, mayAsk, editedNumber, ed
 use Rattle.list_edits.specs.declared.ChainEdited.{ChainEdited}
 use Rattle.list_edits.proofs.Answered.{edited-number, edited-refused, edited-done}
 use Rattle.list_land.specs.Calls.{does, inserted, deleted, changed}
-use Rattle.list_land.specs.Layout.{base, arenaOf, walkOf}
-use Rattle.list_land.specs.inner.Parts.{arenaIn, chainIn, closedWith, Looked, reachBase, reachLimit, refusedBy}
+use Rattle.list_land.specs.Layout.{base, arenaOf, walkOf, closedWith}
+use Rattle.list_land.specs.inner.Parts.{arenaIn, chainIn, Looked, reachBase, reachLimit, refusedBy}
 use Rattle.list_land.specs.declared.Changed.{Changed}
 use Rattle.list_land.specs.declared.ListLand.{ListLand}
 use Rattle.list_land.proofs.Land.{list-land}

@@ -14,8 +14,8 @@ use Rattle.units.specs.declared.Which.{Which}
 use Rattle.units.specs.declared.rules.Arena.{Arena}
 use Rattle.units.proofs.Mode as mode-type
 use Rattle.model.specs.Calls.{good-size}
-use Rattle.model.specs.inner.Lists.{delete-from}
-use Rattle.model.specs.Marks.{struct, plain}
+use Rattle.model.specs.inner.Lists.{delete-from, plain}
+use Rattle.model.specs.Marks.{struct}
 use Rattle.model.specs.inner.Steps.{part}
 use Rattle.model.proofs.FindAnswers as answers
 use Rattle.model.proofs.FindAnswers.{find-long, find-part}
@@ -24,8 +24,8 @@ use Rattle.list_words.specs.declared.Spot.{Spot}
 use Rattle.list_words.specs.declared.Chain.{Chain}
 use Rattle.list_edits.specs.inner.Chains.{metOf, Holding, cutChain, cutWords}
 use Rattle.list_land.specs.Calls.{found, foundOf}
-use Rattle.list_land.specs.Layout.{base, arenaOf, walkOf}
-use Rattle.list_land.specs.inner.Parts.{arenaIn, chainIn, closedWith, Looked, findAim}
+use Rattle.list_land.specs.Layout.{base, arenaOf, walkOf, closedWith}
+use Rattle.list_land.specs.inner.Parts.{arenaIn, chainIn, Looked, findAim}
 use Rattle.list_land.specs.declared.ListLand.{ListLand}
 use Rattle.list_land.proofs.Land.{list-land}
 use Rattle.list_land.proofs.Requests.{looked-held, closes}

@@ -1,9 +1,13 @@
 -- The list land, as the laws on answers of `model` take it. Assumes nothing.
 use Prim.Native.Nat.{ℕ}
-use mathlib.Core.Bool.{cond}
+use mathlib.Core.Bool.{cond, _&&_}
 use mathlib.Core.List.{List}
 use mathlib.Core.Option.{Option, none, some}
 use mathlib.Core.Path.{_≡_, refl}
+use lib.Dec.{eqb}
+use lib.ListN.{length}
+use Rattle.units.specs.Rules.{goodArena}
+use Rattle.units.specs.Words.{wordNumber}
 use Rattle.units.specs.declared.aims.Aim.{Aim}
 use Rattle.model.specs.Calls.{Call}
 use Rattle.model.specs.Lands.{land-call}
@@ -11,24 +15,28 @@ use Rattle.model.specs.Layouts.{reading}
 use Rattle.model.specs.Marks.{Range}
 use Rattle.model.specs.inner.Picks.{here-of}
 use Rattle.model.proofs.Aiming.{pick-by}
-use Rattle.model.proofs.Land.{Land}
+use Rattle.model.proofs.Land.{Land, check-of}
 use Rattle.list_words.specs.inner.Surveys.{kept-of}
 use Rattle.list_words.specs.declared.Spot.{Spot}
 use Rattle.list_words.proofs.Keeping.{SpotOf, kept-placed}
 use Rattle.list_words.proofs.Laid.{lay-laid}
 use Rattle.list_land.specs.Calls.{does}
-use Rattle.list_land.specs.Layout.{base, setUp, walkOf, sound, readOf, layout}
+use Rattle.list_land.specs.Layout.{base, limit, setUp, walkOf, sound, readOf, layout}
 use Rattle.list_land.specs.inner.Parts.{arenaIn, lookNumber, aimIn, lookOf}
 use Rattle.list_land.specs.declared.Changed.{Changed}
 use Rattle.list_land.specs.declared.Found.{Found}
 use Rattle.list_land.specs.declared.ListLand.{ListLand}
 use Rattle.list_land.specs.declared.Look.{Look}
 use Rattle.list_land.proofs.LayoutLaws.{list-laws, handle-back}
-use Rattle.list_land.proofs.Sound.{placed, fine}
+use Rattle.list_land.proofs.Sound.{fine}
 
 pub is-call : (c : Call) (h : ListLand) (ws : List ℕ) → does c h ws ≡ land-call layout c h ws
 unfolding does
 is-call c h ws = refl
+
+pub set-up-is : (h : ListLand) (ws : List ℕ) → setUp h ws ≡ goodArena (check-of (arenaIn h)) && eqb (wordNumber (base h) (limit h)) (length ws)
+unfolding setUp
+set-up-is h ws = refl
 
 pub reads-as : (h : ListLand) (ws : List ℕ) → readOf h ws ≡ reading (setUp h ws) (sound h ws) (walkOf h ws .met)
 unfolding readOf
@@ -49,6 +57,7 @@ same s t e = cc
 abbrev pub list-land : Land ListLand Look Spot Changed Found
 list-land = record {
   layout = layout;
+  lent = λ h ws. eqb (wordNumber (base h) (limit h)) (length ws);
   set-up = setUp;
   sound = sound;
   ranges = λ h ws. walkOf h ws .met;
@@ -66,9 +75,9 @@ list-land = record {
   does = does;
   is-call = is-call;
   laws = list-laws;
+  set-up-is = set-up-is;
   reads = reads-as;
   arena-is = λ h ws. refl;
-  above = λ h ws g. placed h ws g .arena .above;
   number-bad = refl;
   number-damaged = refl;
   number-whole = λ s. refl;

@@ -8,6 +8,8 @@ use lib.Dec.{eqb}
 use lib.ListN.{length, getD}
 use Rattle.units.specs.Rules.{arenaCheck, goodArena}
 use Rattle.units.specs.Words.{wordNumber, addr}
+use Rattle.units.specs.declared.Addr.{Addr}
+use Rattle.units.specs.declared.Size.{Size}
 use Rattle.model.specs.Marks.{Range, total}
 use Rattle.model.specs.Calls.{Arena}
 use Rattle.model.specs.Layouts.{Reading, fault, holding, reading}
@@ -44,16 +46,13 @@ sound h ws = soundWalk (walkOf h ws) (h .ranges) (h .bytes .0)
 unfoldable pub readOf : ListLand → List ℕ → Reading (List Range)
 readOf h ws = reading (setUp h ws) (sound h ws) (walkOf h ws .met)
 
+-- The handle with another head and other counts.
+abbrev pub closedWith : ListLand → Addr → ℕ → Size → ListLand
+closedWith h head n s = record { base = h .base; limit = h .limit; align = h .align; head = head; ranges = n; bytes = s }
+
 -- The handle after an accepted call: head is the base of the first range, or 0; the number of ranges and of free bytes.
 abbrev pub closed : ListLand → List Range → ListLand
-closed h rs = record {
-  base = h .base;
-  limit = h .limit;
-  align = h .align;
-  head = addr (head-of rs);
-  ranges = length rs;
-  bytes = record { 0 = total rs };
-}
+closed h rs = closedWith h (addr (head-of rs)) (length rs) (record { 0 = total rs })
 
 abbrev pub ranges-in : Reading (List Range) → List Range
 ranges-in (fault n) = []

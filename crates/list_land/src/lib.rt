@@ -5,6 +5,7 @@
 mod delete;
 mod find;
 mod insert;
+mod open;
 
 use list_words::Chain;
 use list_words::Spot;
@@ -19,10 +20,11 @@ use units::SetUp;
 use units::Size;
 ghost use mathlib.Core.Bool.{true};
 ghost use mathlib.Core.Path.{_≡_};
-ghost use Rattle.units.specs.Rules.{goodAlign, setUpOf};
-ghost use Rattle.list_land.specs.Layout.{setUp};
-ghost use Rattle.list_land.specs.Calls.{changed, walked, openedOf};
-ghost use Rattle.list_land.specs.inner.Parts.{arenaIn, chainIn, lookNumber, lookOf, closedWith, refusedBy};
+ghost use Rattle.units.specs.Rules.{goodAlign};
+ghost use Rattle.units.specs.inner.Parts.{setUpOf};
+ghost use Rattle.list_land.specs.Layout.{setUp, closedWith};
+ghost use Rattle.list_land.specs.Calls.{changed, walked};
+ghost use Rattle.list_land.specs.inner.Parts.{arenaIn, chainIn, lookNumber, lookOf, refusedBy};
 
 // The handle of a list land: its arena, the first range's base (or 0), the number of ranges and of free bytes.
 #[repr(C)]
@@ -157,34 +159,6 @@ impl ListLand {
         self.ranges = ranges;
         self.bytes = bytes;
         self
-    }
-
-    // Opens a land with no ranges on the arena [base, limit), whose words are lent. No word is written.
-    pub fn open(base: Addr, limit: Addr, align: Align, words: &[u64]) -> Opened
-        ensures { λ r. ⌜ r ≡ openedOf (base .0) (limit .0) (align .0) (now (words .entry)) ⌝ }
-    {
-        let land = ListLand {
-            base,
-            limit,
-            align,
-            head: Addr::new(0),
-            ranges: 0,
-            bytes: Size::new(0),
-        };
-        let SetUp::Good = land.set_up(words) else {
-            return Opened {
-                land: ListLand {
-                    base: Addr::new(0),
-                    limit: Addr::new(0),
-                    align: Align::new(0),
-                    head: Addr::new(0),
-                    ranges: 0,
-                    bytes: Size::new(0),
-                },
-                answer: 5,
-            };
-        };
-        Opened { land, answer: 0 }
     }
 
     // The isolated range of lowest base at or above `from`. Going on from each range's limit meets every range once.

@@ -7,7 +7,7 @@ use units::Size;
 use units::Soundness;
 ghost use mathlib.Core.Path.{_≡_};
 ghost use lib.ListN.{length};
-ghost use Rattle.units.specs.Rules.{soundnessOf};
+ghost use Rattle.units.specs.inner.Parts.{soundnessOf};
 ghost use Rattle.list_words.specs.Words.{soundWalk};
 ghost use Rattle.list_words.specs.inner.Surveys.{Ready, Along, Near, startAt, onward, countsOf, walkOf};
 

@@ -10,7 +10,8 @@ use lib.ListN.{length}
 use types.Run.{OneOf}
 use denote.Enum.Declared.{tagOf}
 use Rattle.units.specs.inner.Aims.{none-range, findAim, aimOf}
-use Rattle.units.specs.Rules.{findCheck, findSize, setUpOf}
+use Rattle.units.specs.Rules.{findCheck, findSize}
+use Rattle.units.specs.inner.Parts.{setUpOf}
 use Rattle.units.specs.declared.Mode.{Mode}
 use Rattle.units.specs.declared.Range as units
 use Rattle.units.specs.declared.Size.{Size}
@@ -23,8 +24,8 @@ use Rattle.units.proofs.Cases.{set-up-false}
 use Rattle.units.proofs.Mode as mode-type
 use Rattle.units.proofs.rules.SizeCheck as size-type
 use Rattle.model.specs.Calls.{Call, find, good-size, find-size}
-use Rattle.model.specs.inner.Lists.{delete-from}
-use Rattle.model.specs.Marks.{Range, struct, plain}
+use Rattle.model.specs.inner.Lists.{delete-from, plain}
+use Rattle.model.specs.Marks.{Range, struct}
 use Rattle.model.specs.inner.Picks.{here-of}
 use Rattle.model.specs.inner.Steps.{choose, part}
 use Rattle.model.proofs.Aiming.{by-find}
@@ -35,6 +36,7 @@ use Rattle.model.proofs.Chosen.{Choice, none-chosen, some-chosen}
 use Rattle.model.proofs.Counting.{room-for-fewer, cut-end}
 use Rattle.model.proofs.Finding.{find-none, find-takes}
 use Rattle.model.proofs.Land.{Land}
+use Rattle.model.proofs.LandWays.{above}
 use Rattle.model.proofs.Looking.{Kept, Finds, bad-is-5, damaged-is-6, saw-5, saw-6, refused-find, fine, is-kept, mem-above, step-refused, done-find}
 use Rattle.model.proofs.Parts.{PartOf, mem-stands, part-takes}
 use Rattle.model.proofs.Requests.{find-size-rules, size-refused}
@@ -93,7 +95,7 @@ module _ {H L S C F : Type 0} (I : Land H L S C F) (h : H) (ws : List ℕ) where
     chosen =
         is-kept I h ws (find-aim w n) s k
         ∙ ap here-of (by-find (record { 0 = find-size (I .layout .arena h ws) (n .0) }) w (I .layout .arena h ws .base) (I .layout .arena h ws .limit) (I .ranges h ws)
-        (I .above h ws (k .good)) (fine I h ws (find-aim w n) s k .canon .apart))
+        (above I h ws (k .good)) (fine I h ws (find-aim w n) s k .canon .apart))
 
     pub chosen-above : (q : Range) → choose w (find-size (I .layout .arena h ws) (n .0)) (I .ranges h ws) ≡ some q → 0 < q .base
     chosen-above q p = mem-above I h ws (find-aim w n) s k q (choose-mem w (find-size (I .layout .arena h ws) (n .0)) (I .ranges h ws) q p .0)

@@ -1,13 +1,15 @@
 -- A land, as the laws on its answers take it: what a land has, and what is to be shown of it. Assumes nothing.
 use Prim.Native.Nat.{ℕ, _<_}
-use mathlib.Core.Bool.{Bool, true, cond}
+use mathlib.Core.Bool.{Bool, true, cond, _&&_}
 use mathlib.Core.List.{List}
 use mathlib.Core.Option.{none}
 use mathlib.Core.Path.{_≡_}
+use Rattle.units.specs.Rules.{arenaCheck, goodArena}
 use Rattle.units.specs.declared.Addr.{Addr}
 use Rattle.units.specs.declared.Range as units
 use Rattle.units.specs.declared.aims.Aim.{Aim}
 use Rattle.units.specs.declared.rules.Arena as units-arena
+use Rattle.units.specs.declared.rules.ArenaCheck.{ArenaCheck}
 use Rattle.model.specs.Calls.{Call, Outcome}
 use Rattle.model.specs.inner.Laws.{LandLaws}
 use Rattle.model.specs.Lands.{LandLayout, land-call}
@@ -18,9 +20,15 @@ use Rattle.model.specs.inner.Picks.{here-of}
 use Rattle.model.proofs.Aiming.{pick-by}
 use Rattle.model.proofs.Checks.{arena-struct}
 
+-- The rules of an arena, as the code has it.
+abbrev pub check-of : units-arena.Arena → ArenaCheck
+check-of a = arenaCheck (a .base .0) (a .limit .0) (a .align .0)
+
 -- Handles H, what a look answers L, what it keeps S, the results of a call C and of a find F.
 pub record Land (H L S C F : Type 0) : Type 1 where
   pub layout : LandLayout H
+  -- whether the memory is lent as it has to be, and the set-up
+  pub lent : H → List ℕ → Bool
   pub set-up : H → List ℕ → Bool
   pub sound : H → List ℕ → Bool
   pub ranges : H → List ℕ → List Range
@@ -45,9 +53,9 @@ pub record Land (H L S C F : Type 0) : Type 1 where
   -- TO BE SHOWN
   pub is-call : (c : Call) (h : H) (ws : List ℕ) → does c h ws ≡ land-call layout c h ws
   pub laws : LandLaws layout
+  pub set-up-is : (h : H) (ws : List ℕ) → set-up h ws ≡ goodArena (check-of (arena-in h)) && lent h ws
   pub reads : (h : H) (ws : List ℕ) → layout .read h ws ≡ reading (set-up h ws) (sound h ws) (ranges h ws)
   pub arena-is : (h : H) (ws : List ℕ) → arena-in h ≡ arena-struct (layout .arena h ws)
-  pub above : (h : H) (ws : List ℕ) → set-up h ws ≡ true → 0 < layout .arena h ws .base
   -- the answers of a look are apart
   pub number-bad : number bad ≡ 5
   pub number-damaged : number damaged ≡ 6

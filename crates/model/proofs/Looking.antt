@@ -7,19 +7,22 @@ use mathlib.Core.Path.{_≡_, refl, sym, ap, _∙_}
 use native.Mathlib.Omega.{arith}
 use lib.Dec.{eqb}
 use Rattle.units.specs.inner.Aims.{none-range}
+use Rattle.units.specs.declared.Addr.{Addr}
 use Rattle.units.specs.declared.Range as units
 use Rattle.units.specs.declared.aims.Aim.{Aim}
 use Rattle.model.specs.Calls.{Call, Outcome, refused, accepted}
 use Rattle.model.specs.inner.Laws.{Fine}
 use Rattle.model.specs.Layouts.{holding, reading, Done}
-use Rattle.model.specs.inner.Lists.{Mem}
+use Rattle.model.specs.inner.Lists.{Apart, Mem}
 use Rattle.model.specs.inner.Looks.{Looked}
 use Rattle.model.specs.Marks.{Range, struct}
 use Rattle.model.specs.inner.Picks.{here-of}
 use Rattle.model.specs.inner.Steps.{list-ops, step}
-use Rattle.model.proofs.Aiming.{pick-by}
+use Rattle.model.proofs.Aiming.{pick-by, by-reach}
 use Rattle.model.proofs.Bytes.{mem-from}
 use Rattle.model.proofs.Land.{Land}
+use Rattle.model.proofs.LandWays.{above}
+use Rattle.model.proofs.Reaching.{reach}
 use Rattle.model.proofs.Outcomes.{call-fault, call-refused, call-accepted, fault-number, read-whole}
 
 -- THE NUMBER THAT THE TWO TESTS GIVE
@@ -127,6 +130,11 @@ module _ {H L S C F : Type 0} (I : Land H L S C F) where
           let s = said-6 (I .set-up h ws) (I .sound h ws) (sym told ∙ ap (I .number) f ∙ I .number-damaged) in
           damaged-is-6 h ws c (s .0) (s .1)
 
+  -- what an aim at the first range that reaches x keeps
+  pub kept-reach : (x : Addr) (lo hi : ℕ) (rs : List Range) → 0 < lo → Apart lo hi rs →
+      (s : S) → s ≡ I .keep (Aim.Reach x) rs → I .here s ≡ here-of (reach (x .0) rs)
+  kept-reach x lo hi rs z a s e = ap (I .here) e ∙ I .keeps (Aim.Reach x) lo hi rs z a ∙ ap here-of (by-reach x lo hi rs z a)
+
   -- A SOUND LAND
   module _ (h : H) (ws : List ℕ) (aim : Aim) (s : S) (k : Kept h ws aim s) where
     abbrev rs : List Range
@@ -138,12 +146,12 @@ module _ {H L S C F : Type 0} (I : Land H L S C F) where
     pub is-kept : I .here s ≡ here-of (pick-by aim none (I .ranges h ws))
     is-kept =
         ap (I .here) (k .kept)
-        ∙ I .keeps aim (I .layout .arena h ws .base) (I .layout .arena h ws .limit) rs (I .above h ws (k .good)) (fine .canon .apart)
+        ∙ I .keeps aim (I .layout .arena h ws .base) (I .layout .arena h ws .limit) rs (above I h ws (k .good)) (fine .canon .apart)
 
     pub mem-above : (q : Range) → Mem q (I .ranges h ws) → 0 < q .base
     mem-above q m =
         let u = mem-from (I .layout .arena h ws .base) (I .layout .arena h ws .limit) rs q (fine .canon .apart) m in
-        let v = I .above h ws (k .good) in
+        let v = above I h ws (k .good) in
         omega arith
 
     module _ (c : Call) where

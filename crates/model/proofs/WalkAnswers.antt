@@ -17,6 +17,7 @@ use Rattle.model.proofs.Best.{next-mem}
 use Rattle.model.proofs.Chosen.{none-chosen, some-chosen}
 use Rattle.model.proofs.Finding.{walk-visits, walk-keeps}
 use Rattle.model.proofs.Land.{Land}
+use Rattle.model.proofs.LandWays.{above}
 use Rattle.model.proofs.Looking.{Kept, changed, read-back, saw, saw-5, saw-6, refused-change, fine, is-kept, mem-above, step-refused, done-change}
 
 module _ {H L S C F : Type 0} (I : Land H L S C F) (h : H) (ws : List ℕ) where
@@ -40,7 +41,7 @@ module _ {H L S C F : Type 0} (I : Land H L S C F) (h : H) (ws : List ℕ) where
       chosen : I .here s ≡ here-of (next-from (x .0) (I .ranges h ws))
       chosen =
           is-kept I h ws (Aim.From x) s k
-          ∙ ap here-of (by-from x (I .layout .arena h ws .base) (I .layout .arena h ws .limit) rs (I .above h ws (k .good)) (fine I h ws (Aim.From x) s k .canon .apart))
+          ∙ ap here-of (by-from x (I .layout .arena h ws .base) (I .layout .arena h ws .limit) rs (above I h ws (k .good)) (fine I h ws (Aim.From x) s k .canon .apart))
 
       pub walk-2 : t ≡ true → (w : C) → w ≡ I .change h 2 none-range → w ≡ changed I (I .does (walk (x .0)) h ws)
       walk-2 g w ew =

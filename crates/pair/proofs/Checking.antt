@@ -5,7 +5,8 @@ use mathlib.Core.List.{List}
 use mathlib.Core.Path.{_≡_, sym, ap, ap₂, _∙_}
 use native.Mathlib.Omega.{arith}
 use lib.ListN.{length}
-use Rattle.units.specs.Rules.{arenaCheck, goodAlign, goodArena, setUpOf, soundnessOf}
+use Rattle.units.specs.Rules.{arenaCheck, goodAlign, goodArena}
+use Rattle.units.specs.inner.Parts.{setUpOf, soundnessOf}
 use Rattle.units.specs.inner.Aims.{aimOf}
 use Rattle.units.specs.Words.{rangeOf}
 use Rattle.units.specs.declared.Range as ranges

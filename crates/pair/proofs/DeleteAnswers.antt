@@ -10,6 +10,7 @@ use Rattle.units.specs.declared.Size.{Size}
 use Rattle.model.specs.Calls.{good-range, accepted}
 use Rattle.model.specs.Marks.{Range, rng, struct}
 use Rattle.model.specs.inner.Lists.{holds, holder}
+use Rattle.model.proofs.Looking.{kept-reach}
 use Rattle.model.proofs.Totals.{total-delete}
 use Rattle.list_words.specs.Laying.{lay}
 use Rattle.list_words.specs.declared.Spot.{Spot}
@@ -17,6 +18,7 @@ use Rattle.list_words.proofs.Laid.{lay-laid}
 use Rattle.list_land.specs.Layout as list
 use Rattle.list_land.specs.inner.Parts.{Looked, reachLimit}
 use Rattle.list_land.specs.declared.ListLand.{ListLand}
+use Rattle.list_land.proofs.Land.{list-land}
 use Rattle.list_land.proofs.LayoutLaws as list-laws
 use Rattle.block_words.specs.Words.{fill}
 use Rattle.block_words.specs.inner.Surveys as places
@@ -25,7 +27,6 @@ use Rattle.block_edits.specs.inner.Edits.{Sorted, cutOf, cutWords}
 use Rattle.block_edits.specs.declared.TableEdited.{TableEdited}
 use Rattle.block_edits.proofs.Answered.{cut-refused, cut-full, cut-done, cut-words}
 use Rattle.block_land.specs.Layout as block
-use Rattle.block_land.specs.inner.Parts as block-parts
 use Rattle.block_land.specs.declared.BlockLand.{BlockLand}
 use Rattle.block_land.proofs.EditAnswers as block-edits
 use Rattle.block_land.proofs.Requests as block-requests
@@ -39,7 +40,7 @@ use Rattle.pair.specs.declared.Pair.{Pair}
 use Rattle.pair.proofs.Asking.{list-fine, block-fine, readable, order, list-good}
 use Rattle.pair.proofs.Calling.{Hands, list-looked, block-looked, accepts}
 use Rattle.pair.proofs.DeleteLists.{listed-holds, listed-here, listed-takes}
-use Rattle.pair.proofs.ReachedHere.{begins-holds, spot-reach}
+use Rattle.pair.proofs.ReachedHere.{begins-holds}
 
 pub is-delete : (p : Pair) (ws vs : List ℕ) (y : units.Range) → deleted p ws vs y ≡ called (delete (y .base .0) (y .limit .0)) p ws vs
 unfolding deleted
@@ -94,7 +95,7 @@ module _ (p : Pair) (ws vs : List ℕ) (y : units.Range) (s : Spot) (e : Entry) 
       pub not-in-list : t ≡ false → Unlisted p ws vs y s e
       not-in-list f =
           let z = list-fine p ws vs y s e k .place .arena .above in
-          let q = spot-reach (y .limit) (list.base (p .list)) (list.limit (p .list)) rs z (list-fine p ws vs y s e k .apart) s (k .checked .spot) in
+          let q = kept-reach list-land (y .limit) (list.base (p .list)) (list.limit (p .list)) rs z (list-fine p ws vs y s e k .apart) s (k .checked .spot) in
           record {
             asked = k;
             unlisted = sym (begins-holds y (list.base (p .list)) (list.limit (p .list)) rs z (order p ws vs y s e k) (list-fine p ws vs y s e k .apart)) ∙ (rw q at (sym et ∙ f));
@@ -134,7 +135,7 @@ module _ (p : Pair) (ws vs : List ℕ) (y : units.Range) (s : Spot) (e : Entry) 
         pub cut-room : z .0 ≤ p .block .bytes .0
         cut-room = block-edits.delete-room (p .block) vs y e (block-looked p ws vs (reachLimit y) s e (u .asked .checked)) (u .asked .good) v vs' d x m f z ez
 
-        pub cut-0 : (t : Size) → t .0 ≡ p .block .bytes .0 - z .0 → (h : BlockLand) → h ≡ block-parts.closedWith (p .block) m t →
+        pub cut-0 : (t : Size) → t .0 ≡ p .block .bytes .0 - z .0 → (h : BlockLand) → h ≡ block.closedWith (p .block) m t →
             Deletes p ws vs y (record { pair = record { list = p .list; block = h }; answer = 0; range = x }) ws vs'
         cut-0 t et h eh =
             let q = sym (d .0) ∙ f in

@@ -12,6 +12,7 @@ use Rattle.model.specs.Calls.{good-range}
 use Rattle.model.specs.Marks.{Range, struct}
 use Rattle.model.specs.inner.Lists.{holds, holder}
 use Rattle.model.specs.inner.Picks.{here-of}
+use Rattle.model.proofs.Looking.{kept-reach}
 use Rattle.model.proofs.Reaching.{reach}
 use Rattle.model.proofs.Requests.{range-rules}
 use Rattle.model.proofs.Surrounding.{held}
@@ -19,11 +20,12 @@ use Rattle.list_words.specs.declared.Spot.{Spot}
 use Rattle.list_land.specs.Layout as list
 use Rattle.list_land.specs.inner.Parts.{arenaIn, chainIn, Looked, reachLimit}
 use Rattle.list_land.specs.declared.ListLand.{ListLand}
+use Rattle.list_land.proofs.Land.{list-land}
 use Rattle.list_land.proofs.Requests.{looked-fine, looked-held}
 use Rattle.list_land.proofs.Sound.{Fine}
 use Rattle.pair.specs.inner.Deletes.{begins}
 use Rattle.pair.specs.inner.Editing.{TakingListed}
-use Rattle.pair.proofs.ReachedHere.{begins-holds, reach-holder, spot-reach}
+use Rattle.pair.proofs.ReachedHere.{begins-holds, reach-holder}
 
 module _ (h : ListLand) (ws : List ℕ) (y : units.Range) (s : Spot) (k : Looked h ws (reachLimit y) s)
     (good : good-range (list.arenaOf h) (y .base .0) (y .limit .0) ≡ true) (at-spot : begins y (s .here) ≡ true) where
@@ -43,7 +45,7 @@ module _ (h : ListLand) (ws : List ℕ) (y : units.Range) (s : Spot) (k : Looked
   rules = range-rules (list.arenaOf h) b l good
 
   at-reach : s .here ≡ here-of (reach l met)
-  at-reach = spot-reach (y .limit) (list.base h) (list.limit h) met (fit .place .arena .above) (fit .apart) s (k .kept)
+  at-reach = kept-reach list-land (y .limit) (list.base h) (list.limit h) met (fit .place .arena .above) (fit .apart) s (k .kept)
 
   pub listed-holds : holds b l met ≡ true
   listed-holds =

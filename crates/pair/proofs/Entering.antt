@@ -58,7 +58,7 @@ module _ (p : Pair) (ws : List ℕ) (y : units.Range) (s : list-spot.Spot) (k : 
     pub enter-asks : (t : list-spot.Spot) → t ≡ kept-of (Aim.Reach (y .base)) (walkOf a ws (p .list .head .0) .met) → JoinAsks a ws (list-parts.chainIn (p .list)) y t
     enter-asks t et =
         let u : t ≡ kept-of (Aim.Reach (y .base)) (list.walkOf (p .list) ws .met) = rw ea at et in
-        join-asks (p .list) ws y a ea (list-parts.chainIn (p .list)) refl t (record { good = k .good; whole = k .whole; kept = u }) (k .asked) (k .clear)
+        join-asks (p .list) ws y a ea (list-parts.chainIn (p .list)) refl t (record { good = k .good; whole = k .whole; kept = u }) (k .asked) (k .disjoint)
 
     abbrev listed : list-joined.ChainJoined → Entered
     listed j = record { counts = record { chain = j .chain; ranges = p .block .ranges; bytes = p .block .bytes }; range = j .range }
@@ -83,7 +83,7 @@ module _ (p : Pair) (ws vs : List ℕ) (y : units.Range) (s : list-spot.Spot) (k
 
   pub enter-sorted : (i : ℕ) → FirstReach vs (p .block .ranges) (y .base .0) i →
       Sorted vs (p .block .ranges) × ((y .base .0 < y .limit .0) × (FirstReach vs (p .block .ranges) (y .base .0) i × (overlaps (y .base .0) (y .limit .0) (block.tableOf (p .block) vs) ≡ false)))
-  enter-sorted i t = (sorted (p .block) vs read, (k .proper, (t, k .clear)))
+  enter-sorted i t = (sorted (p .block) vs read, (k .proper, (t, k .disjoint)))
 
   abbrev Enters : Entered → List ℕ → List ℕ → Type 0
   Enters w ws' vs' = (w ≡ entered p ws vs y) × (ws' ≡ enteredWords p ws vs y) × (vs' ≡ enteredNodes p vs y)

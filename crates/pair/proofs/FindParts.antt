@@ -11,7 +11,8 @@ use Rattle.units.specs.declared.Size.{Size}
 use Rattle.units.specs.declared.Which.{Which}
 use Rattle.units.specs.declared.rules.Arena.{Arena}
 use Rattle.units.proofs.Mode as mode-type
-use Rattle.model.specs.Marks.{struct, plain}
+use Rattle.model.specs.Marks.{struct}
+use Rattle.model.specs.inner.Lists.{plain}
 use Rattle.model.specs.inner.Steps.{part}
 use Rattle.model.proofs.FindAnswers.{find-kept, find-part, find-0}
 use Rattle.finds.specs.inner.Parts.{Within}

@@ -21,6 +21,7 @@ use Rattle.model.proofs.Bytes.{mem-from, mem-upto}
 use Rattle.model.proofs.Bytewise.{holds-all}
 use Rattle.model.proofs.Counting.{cut-end}
 use Rattle.model.proofs.Parts.{Stands, mem-stands}
+use Rattle.model.proofs.Looking.{kept-reach}
 use Rattle.model.proofs.Requests.{range-rules, rules-range}
 use Rattle.model.proofs.Surrounding.{Held, held}
 use Rattle.list_words.specs.Laying.{lay}
@@ -35,6 +36,7 @@ use Rattle.block_edits.specs.inner.Places.{Holding}
 use Rattle.block_edits.proofs.Entering.{Numbered, kept-numbered}
 use Rattle.block_land.specs.Layout as block
 use Rattle.block_land.specs.declared.BlockLand.{BlockLand}
+use Rattle.block_land.proofs.Land.{block-land}
 use Rattle.block_land.proofs.Requests.{sorted}
 use Rattle.block_land.proofs.Sound.{Fine}
 use Rattle.flush.proofs.FlushKeeps.{checked, list-canon, block-canon}
@@ -51,7 +53,7 @@ use Rattle.pair.proofs.Checking.{same-up}
 use Rattle.pair.proofs.Asking.{block-fine, readable, order}
 use Rattle.pair.proofs.DeleteAnswers.{Deletes, does}
 use Rattle.pair.proofs.LandEdits.{JoinAsks, join-asks}
-use Rattle.pair.proofs.ReachedHere.{reach-holder, entry-reach}
+use Rattle.pair.proofs.ReachedHere.{reach-holder}
 
 module _ (p : Pair) (ws vs : List ℕ) (y : units.Range) (s : Spot) (e : Entry) (k : Spilling p ws vs y s e) where
   abbrev b : ℕ
@@ -103,7 +105,7 @@ module _ (p : Pair) (ws vs : List ℕ) (y : units.Range) (s : Spot) (e : Entry) 
   -- the entry is the range that holds the request
   q-here : e .here ≡ struct q
   q-here =
-      entry-reach (y .limit) (a .base) (a .limit) qs (fine .place .arena .above) (fine .apart) e (asked .checked .entry)
+      kept-reach block-land (y .limit) (a .base) (a .limit) qs (fine .place .arena .above) (fine .apart) e (asked .checked .entry)
       ∙ ap here-of (reach-holder b l (a .base) (a .limit) qs (order p ws vs y s e asked) (fine .apart) (k .held))
 
   rules : RangeRules a l (q .limit)

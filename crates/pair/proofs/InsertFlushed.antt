@@ -75,13 +75,13 @@ module _ (p : Pair) (ws vs : List ℕ) (y : units.Range) (s : Spot) (e : Entry) 
   proper : y .base .0 < y .limit .0
   proper = order p ws vs y s e (k .wanted)
 
-  list-clear : overlaps (y .base .0) (y .limit .0) (fl .left) ≡ false
-  list-clear =
+  list-disjoint : overlaps (y .base .0) (y .limit .0) (fl .left) ≡ false
+  list-disjoint =
       no-overlap b l (block.base (p .block)) (block.limit (p .block)) (fl .left) proper (known .moved .left-fine .canon .apart)
       (λ x i j. or-left (marksOf (fl .left) x) (marksOf (fl .into) x) (none-free x i j))
 
-  block-clear : overlaps (y .base .0) (y .limit .0) (fl .into) ≡ false
-  block-clear =
+  block-disjoint : overlaps (y .base .0) (y .limit .0) (fl .into) ≡ false
+  block-disjoint =
       no-overlap b l (block.base (p .block)) (block.limit (p .block)) (fl .into) proper (known .moved .into-fine .canon .apart)
       (λ x i j. or-right (marksOf (fl .left) x) (marksOf (fl .into) x) (none-free x i j))
 
@@ -95,7 +95,7 @@ module _ (p : Pair) (ws vs : List ℕ) (y : units.Range) (s : Spot) (e : Entry) 
       good = known .in-list .good;
       whole = known .in-list .whole;
       asked = list-good p ws vs y s e (k .wanted);
-      clear = rw (known .in-list .same) list-clear;
+      disjoint = rw (known .in-list .same) list-disjoint;
       left = record {
         listed = record {
           ready = list-sound.placed (flushedPair p ws vs .list) ws (known .in-list .good) .ready;
@@ -113,7 +113,7 @@ module _ (p : Pair) (ws vs : List ℕ) (y : units.Range) (s : Spot) (e : Entry) 
         let u = range-rules (block.arenaOf (p .block) vs) b l (k .wanted .good) .upto in
         let t = known .block-fine .place .arena .top in
         omega arith;
-    clear = rw (known .in-block .same) block-clear;
+    disjoint = rw (known .in-block .same) block-disjoint;
   }
 
   -- IT ENTERS, AND BOTH LANDS ARE CLOSED
@@ -129,7 +129,7 @@ module _ (p : Pair) (ws vs : List ℕ) (y : units.Range) (s : Spot) (e : Entry) 
     into-block t =
         let new = insert-in b l (fl .into) in
         let d = is-insert p ws vs y
-        ∙ accepts p ws vs (reachBase y) s e (k .wanted .checked) (insert b l) (holder b l new) (rng 0 0) (fl .left) new (rw (k .wanted .good, k .none, block-clear, t)) in
+        ∙ accepts p ws vs (reachBase y) s e (k .wanted .checked) (insert b l) (holder b l new) (rng 0 0) (fl .left) new (rw (k .wanted .good, k .none, block-disjoint, t)) in
         let x : w ≡ record { counts = countsOf (fl .left) new; range = struct (holder b l new) } = rw (known .in-block .same, length-fill (fl .into) vs, t) at (f .0) in
         let u : ws₂ ≡ ws = rw (known .in-block .same, length-fill (fl .into) vs, t) at (f .1) in
         let v : vs₂ ≡ fill new (flushedNodes p ws vs) = rw (known .in-block .same, length-fill (fl .into) vs, t) at (f .2) in
@@ -139,7 +139,7 @@ module _ (p : Pair) (ws vs : List ℕ) (y : units.Range) (s : Spot) (e : Entry) 
     into-list t =
         let new = insert-in b l (fl .left) in
         let d = is-insert p ws vs y
-        ∙ accepts p ws vs (reachBase y) s e (k .wanted .checked) (insert b l) (holder b l new) (rng 0 0) new (fl .into) (rw (k .wanted .good, k .none, block-clear, t, list-clear)) in
+        ∙ accepts p ws vs (reachBase y) s e (k .wanted .checked) (insert b l) (holder b l new) (rng 0 0) new (fl .into) (rw (k .wanted .good, k .none, block-disjoint, t, list-disjoint)) in
         let x : w ≡ record { counts = countsOf new (fl .into); range = struct (holder b l new) } =
         rw (known .in-block .same, known .in-list .same, length-fill (fl .into) vs, t) at (f .0) in
         let u : ws₂ ≡ lay (list.base (p .list)) new ws = rw (known .in-block .same, known .in-list .same, length-fill (fl .into) vs, t) at (f .1) in

@@ -1,30 +1,21 @@
--- The first range that reaches a request's limit holds the request exactly if it begins at or below it; what the aims keep is that range. Assumes nothing.
+-- The first range that reaches a request's limit holds the request exactly if it begins at or below it. Assumes nothing.
 use Prim.Native.Nat.{ℕ, suc, _<_}
 use mathlib.Core.Bool.{Bool, true, false, and-false}
 use mathlib.Core.List.{List, [], _∷_}
-use mathlib.Core.Option.{Option, none, some}
-use mathlib.Core.Path.{_≡_, refl, sym, ap, _∙_}
+use mathlib.Core.Option.{some}
+use mathlib.Core.Path.{_≡_, refl, sym, _∙_}
 use native.Mathlib.Omega.{arith}
 use lib.Dec.{eqb, leb}
 use borrow.Author.Tests.{ne-eqb, lt-leb}
-use Rattle.units.specs.declared.Addr.{Addr}
 use Rattle.units.specs.declared.Range as units
-use Rattle.units.specs.declared.aims.Aim.{Aim}
 use Rattle.units.proofs.Tests.{by, clash, tests, and-right, or-second}
 use Rattle.model.specs.Marks.{Range}
 use Rattle.model.specs.inner.Lists.{Apart, covers, holds, holder}
 use Rattle.model.specs.inner.Picks.{here-of}
-use Rattle.model.proofs.Aiming.{picked-by, by-reach}
 use Rattle.model.proofs.Bytes.{mem-from}
 use Rattle.model.proofs.Places.{holds-above}
 use Rattle.model.proofs.Reaching.{reach}
 use Rattle.model.proofs.Surrounding.{held}
-use Rattle.list_words.specs.inner.Surveys.{kept-of}
-use Rattle.list_words.specs.declared.Spot.{Spot}
-use Rattle.list_words.proofs.Keeping.{SpotOf, kept-reach}
-use Rattle.block_words.specs.inner.Surveys.{entryOf}
-use Rattle.block_words.specs.declared.Entry.{Entry}
-use Rattle.block_edits.proofs.Entering.{entry-here}
 use Rattle.pair.specs.inner.Deletes.{begins}
 
 pub begins-holds : (y : units.Range) (lo hi : ℕ) (rs : List Range) → 0 < lo → y .base .0 < y .limit .0 → Apart lo hi rs →
@@ -48,18 +39,6 @@ reach-holder b l lo hi (r ∷ rs) o a e =
     let low = w .low in
     let m = mem-from (suc (r .limit)) hi rs (holder b l rs) (a .3) (w .mem) in
     rw (f, lt-leb l (r .limit) (omega arith)) (reach-holder b l (suc (r .limit)) hi rs o (a .3) h))
-
-placed-here : (rs : List Range) (o : Option Range) (s : Spot) → SpotOf rs o s → s .here ≡ here-of o
-placed-here rs none s p = p .here
-placed-here rs (some q) s p = p .here
-
-module _ (x : Addr) (lo hi : ℕ) (rs : List Range) (z : 0 < lo) (a : Apart lo hi rs) where
-  pub spot-reach : (s : Spot) → s ≡ kept-of (Aim.Reach x) rs → s .here ≡ here-of (reach (x .0) rs)
-  spot-reach s e = ap (λ (k : Spot). k .here) e ∙ placed-here rs (reach (x .0) rs) (kept-of (Aim.Reach x) rs) (kept-reach lo hi rs z a x)
-
-  pub entry-reach : (e : Entry) → e ≡ entryOf (Aim.Reach x) rs → e .here ≡ here-of (reach (x .0) rs)
-  entry-reach e f =
-      ap (λ (k : Entry). k .here) f ∙ entry-here (Aim.Reach x) rs ∙ picked-by (Aim.Reach x) none rs ∙ ap here-of (by-reach x lo hi rs z a)
 
 -- the ways out of `begins_below`
 module _ (y here : units.Range) (t : Bool) (et : t ≡ eqb (here .base .0) 0) where

@@ -12,7 +12,8 @@ use Rattle.units.specs.declared.Which.{Which}
 use Rattle.units.proofs.Tests.{by}
 use Rattle.model.specs.Calls as land
 use Rattle.model.specs.Calls.{Arena, Step}
-use Rattle.model.specs.Marks.{Range, plain}
+use Rattle.model.specs.Marks.{Range}
+use Rattle.model.specs.inner.Lists.{plain}
 use Rattle.model.specs.inner.Picks.{here-of}
 use Rattle.pair_model.specs.Pairs.{Sets, keep, in-list, in-block, list-step, block-step, list-first, find-in}
 use Rattle.pair.specs.inner.Finding.{sideOf}

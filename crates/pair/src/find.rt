@@ -15,7 +15,7 @@ use units::SizeCheck;
 use units::Which;
 ghost use mathlib.Core.Path.{_≡_};
 ghost use Rattle.units.specs.declared.aims.Aim.{Aim as Aim·};
-ghost use Rattle.model.specs.Marks.{plain};
+ghost use Rattle.model.specs.inner.Lists.{plain};
 ghost use Rattle.list_land.specs.Calls as list;
 ghost use Rattle.block_land.specs.Calls as block;
 ghost use Rattle.pair_model.specs.Pairs.{list-first};

@@ -20,7 +20,7 @@ use units::Range;
 use units::SetUp;
 use units::Soundness;
 ghost use mathlib.Core.Path.{_≡_};
-ghost use Rattle.units.specs.Rules.{setUpOf};
+ghost use Rattle.units.specs.inner.Parts.{setUpOf};
 ghost use Rattle.pair.specs.Calls.{setUp};
 ghost use Rattle.pair.specs.inner.Parts.{checkOf, refusedBy, foundNone};
 

@@ -6,12 +6,13 @@ use mathlib.Core.Path.{_≡_, refl, sym, ap, subst, _∙_}
 use native.Mathlib.Omega.{arith}
 use lib.Dec.{leb}
 use borrow.Author.Tests.{leb-true, leb-false}
-use Rattle.units.specs.Rules.{soundnessOf, soundNumber}
+use Rattle.units.specs.Rules.{soundNumber}
+use Rattle.units.specs.inner.Parts.{soundnessOf}
 use Rattle.units.specs.declared.Range as units
 use Rattle.units.proofs.Tests.{by}
 use Rattle.units.proofs.Ways.{said-true, said-false}
-use Rattle.model.specs.Marks.{Range, struct, plain}
-use Rattle.model.specs.inner.Lists.{Apart}
+use Rattle.model.specs.Marks.{Range, struct}
+use Rattle.model.specs.inner.Lists.{Apart, plain}
 use Rattle.block_words.specs.Words.{capacity}
 use Rattle.block_words.specs.inner.Tallies.{pairAt, behind}
 use Rattle.block_words.proofs.Pairs.{pairs-at, pairs-end}

@@ -8,7 +8,7 @@ use denote.Enum.Declared.{tagOf}
 use lib.Dec.{eqb}
 use lib.ListN.{length}
 use Rattle.units.specs.inner.Aims.{none-range, takes, Sized}
-use Rattle.units.specs.Rules.{soundnessOf}
+use Rattle.units.specs.inner.Parts.{soundnessOf}
 use Rattle.units.specs.Words.{addr, rangeOf}
 use Rattle.units.specs.declared.Addr.{Addr}
 use Rattle.units.specs.declared.Range.{Range}

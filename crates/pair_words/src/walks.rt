@@ -16,7 +16,7 @@ ghost use mathlib.Core.Bool.{true};
 ghost use mathlib.Core.Path.{_≡_};
 ghost use lib.ListN.{length};
 ghost use Rattle.units.specs.inner.Aims.{none-range, keepsFirst};
-ghost use Rattle.units.specs.Rules.{soundnessOf};
+ghost use Rattle.units.specs.inner.Parts.{soundnessOf};
 ghost use Rattle.list_words.specs.inner.Seeks.{sought};
 ghost use Rattle.list_words.specs.inner.Surveys.{Ready, Along, kept-of};
 ghost use Rattle.block_words.specs.Words.{capacity};

@@ -4,10 +4,11 @@ use mathlib.Core.Bool.{Bool, false, cond}
 use mathlib.Core.List.{List, [], _∷_}
 use lib.Dec.{leb, ltb, eqb}
 use lib.ListN.{getD}
-use Rattle.units.specs.Words.{rangeOf, one}
+use Rattle.units.specs.Words.{rangeOf}
+use Rattle.units.specs.inner.Parts.{one}
 use Rattle.units.specs.declared.Range as units
-use Rattle.model.specs.Marks.{Range, plain}
-use Rattle.model.specs.inner.Lists.{piece}
+use Rattle.model.specs.Marks.{Range}
+use Rattle.model.specs.inner.Lists.{piece, plain}
 use Rattle.block_words.specs.Words.{capacity, pairs, fill}
 use Rattle.block_shifts.specs.inner.Shifts.{spliced}
 use Rattle.block_edits.specs.inner.Edits.{Sorted}

@@ -1,5 +1,6 @@
 -- `refused` meets its contract. Assumes nothing.
-use Rattle.block_land.proofs.Ways.{refused-made}
+use Rattle.model.proofs.LandWays.{refused-made}
+use Rattle.block_land.proofs.Land.{block-land}
 use borrow.Author.Needs.{needs}
 use Rattle.block_land.proofs.refused.Statement.{statement}
 use Rattle.block_land.proofs.refused.Tie as tie
@@ -8,7 +9,7 @@ none-requires : tie.Need-none-requires
 none-requires c κs = search needs
 
 returns : tie.Need-returns
-returns c = search refused-made
+returns c = search (refused-made block-land)
 
 pub refused-spec : {M : Type 1} → statement M
 refused-spec = tie.close (tie.spec none-requires returns)

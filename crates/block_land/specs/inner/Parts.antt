@@ -33,9 +33,6 @@ unfoldable pub lookOf : BlockLand → List ℕ → Aim → Look
 lookOf h ws aim =
     cond (setUp h ws) (cond (sound h ws) (Look.Sound (entryOf aim (tableOf h ws))) Look.Damaged) Look.BadSetUp
 
-abbrev pub closedWith : BlockLand → ℕ → Size → BlockLand
-closedWith h n s = record { base = h .base; limit = h .limit; align = h .align; ranges = n; bytes = s }
-
 -- A land whose table is sound.
 pub record Readable (h : BlockLand) (ws : List ℕ) : Type 0 where
   pub good : setUp h ws ≡ true

@@ -6,7 +6,7 @@ use mathlib.Core.Path.{_≡_}
 use lib.Dec.{eqb, ltb}
 use Rattle.units.specs.declared.Addr.{Addr}
 use Rattle.units.specs.declared.Range.{Range}
-use Rattle.model.specs.Marks.{plain}
+use Rattle.model.specs.inner.Lists.{plain}
 use Rattle.list_edits.specs.declared.Edit.{Edit}
 use Rattle.list_words.specs.Laying.{describe}
 

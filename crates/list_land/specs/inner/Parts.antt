@@ -5,7 +5,6 @@ use mathlib.Core.List.{List}
 use Rattle.units.specs.Rules.{findSize}
 use Rattle.units.specs.inner.Aims.{aimOf}
 use Rattle.units.specs.Words.{rangeOf}
-use Rattle.units.specs.declared.Addr.{Addr}
 use Rattle.units.specs.declared.Range.{Range}
 use Rattle.units.specs.declared.Size.{Size}
 use Rattle.units.specs.declared.Which.{Which}
@@ -41,9 +40,6 @@ aimIn h aim = aimOf (arenaIn h) aim
 unfoldable pub lookOf : ListLand → List ℕ → Aim → Look
 lookOf h ws aim =
     cond (setUp h ws) (cond (sound h ws) (Look.Sound (kept-of (aimIn h aim) (walkOf h ws .met))) Look.Damaged) Look.BadSetUp
-
-abbrev pub closedWith : ListLand → Addr → ℕ → Size → ListLand
-closedWith h head n s = record { base = h .base; limit = h .limit; align = h .align; head = head; ranges = n; bytes = s }
 
 -- A spot that an aim keeps of a sound list.
 abbrev pub Looked : ListLand → List ℕ → Aim → Spot → Type 0

@@ -5,7 +5,12 @@ use mathlib.Core.List.{List, [], _∷_}
 use mathlib.Core.Logic.{_⊎_}
 use Prim.Native.Nat.{ℕ, suc, _≤_, _<_, _%_}
 use lib.Dec.{leb, ltb, eqb}
+use Rattle.units.specs.declared.Range as units
 use Rattle.model.specs.Marks.{Range, rng}
+
+-- A struct of the code as a range.
+abbrev pub plain : units.Range → Range
+plain r = rng (r .base .0) (r .limit .0)
 
 -- From lo up to hi, ascending, non-empty, and no two touch.
 abbrev pub Apart : ℕ → ℕ → List Range → Type 0

@@ -11,7 +11,8 @@ use Rattle.list_words.specs.declared.Chain.{Chain}
 use Rattle.list_words.specs.declared.Spot.{Spot}
 use Rattle.list_edits.specs.inner.Chains as chains
 use Rattle.list_land.specs.Layout as list
-use Rattle.list_land.specs.inner.Parts.{arenaIn, chainIn, closedWith}
+use Rattle.list_land.specs.inner.Parts.{arenaIn, chainIn}
+use Rattle.list_land.specs.Layout.{closedWith}
 use Rattle.list_land.specs.declared.ListLand.{ListLand}
 use Rattle.block_words.specs.Words.{capacity}
 use Rattle.block_edits.specs.inner.Places.{Holding}

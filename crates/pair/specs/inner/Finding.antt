@@ -10,7 +10,8 @@ use Rattle.units.specs.declared.Which.{Which}
 use Rattle.units.specs.declared.aims.Aim.{Aim}
 use Rattle.model.specs.Calls.{good-size}
 use Rattle.model.specs.inner.Looks.{Chose}
-use Rattle.model.specs.Marks.{plain, struct}
+use Rattle.model.specs.Marks.{struct}
+use Rattle.model.specs.inner.Lists.{plain}
 use Rattle.list_words.specs.inner.Surveys.{kept-of}
 use Rattle.list_words.specs.declared.Spot.{Spot}
 use Rattle.list_land.specs.Calls as list-calls

@@ -20,7 +20,6 @@ use Rattle.block_words.specs.inner.Surveys as places
 use Rattle.block_words.specs.Words.{capacity, fill}
 use Rattle.block_words.specs.declared.Entry.{Entry}
 use Rattle.block_land.specs.Layout as block
-use Rattle.block_land.specs.inner.Parts as block-parts
 use Rattle.flush.specs.Flush.{checkOf, moves}
 use Rattle.flush.specs.declared.FlushCheck.{FlushCheck}
 use Rattle.pair_model.specs.Pairs.{both, any-free}
@@ -36,7 +35,7 @@ abbrev pub countsOf : List Range → List Range → Counts
 countsOf rs qs = record { chain = chainOf rs; ranges = length qs; bytes = record { 0 = total qs } }
 
 abbrev pub closedBy : Pair → Counts → Pair
-closedBy p c = record { list = chained (p .list) (c .chain); block = block-parts.closedWith (p .block) (c .ranges) (c .bytes) }
+closedBy p c = record { list = chained (p .list) (c .chain); block = block.closedWith (p .block) (c .ranges) (c .bytes) }
 
 module _ (p : Pair) (ws vs : List ℕ) where
   -- The flush of the list's ranges into the table; the counts and the node words after it.
@@ -65,7 +64,7 @@ module _ (p : Pair) (ws : List ℕ) (y : units.Range) where
     pub good : list.setUp (p .list) ws ≡ true
     pub whole : list.sound (p .list) ws ≡ true
     pub asked : good-range (list.arenaOf (p .list)) (y .base .0) (y .limit .0) ≡ true
-    pub clear : overlaps (y .base .0) (y .limit .0) (list.walkOf (p .list) ws .met) ≡ false
+    pub disjoint : overlaps (y .base .0) (y .limit .0) (list.walkOf (p .list) ws .met) ≡ false
     pub left : Left (list-parts.arenaIn (p .list)) ws (p .list .head) (y .base) s
 
 module _ (p : Pair) (vs : List ℕ) (y : units.Range) where
@@ -100,7 +99,7 @@ module _ (p : Pair) (ws vs : List ℕ) (y : units.Range) where
     pub whole : block.sound (p .block) vs ≡ true
     pub proper : y .base .0 < y .limit .0
     pub upto : y .limit .0 ≤ 1099511627776
-    pub clear : overlaps (y .base .0) (y .limit .0) (block.tableOf (p .block) vs) ≡ false
+    pub disjoint : overlaps (y .base .0) (y .limit .0) (block.tableOf (p .block) vs) ≡ false
 
   -- Some byte of the range is free in either land.
   abbrev pub takenIn : Bool

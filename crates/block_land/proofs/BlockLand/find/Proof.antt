@@ -6,8 +6,9 @@ use Rattle.units.proofs.Cases.{set-up-true}
 use Rattle.units.proofs.Taking.{aim-good}
 use Rattle.model.specs.Calls.{find}
 use Rattle.model.proofs.FindAnswers.{find-5, find-6, find-4, find-ready}
+use Rattle.model.proofs.LandWays.{good-align, good-positive}
 use Rattle.block_land.proofs.Land.{block-land}
-use Rattle.block_land.proofs.Ways.{good-ways, table-damaged, table-rising, table-kept}
+use Rattle.block_land.proofs.Ways.{good-ready, table-damaged, table-rising, table-kept}
 use Rattle.block_land.proofs.BlockLand.find.Statement.{statement}
 use Rattle.block_land.proofs.BlockLand.find.Tie as tie
 
@@ -33,16 +34,16 @@ returns c =
     find-5 block-land _ _ (find (a .which) (a .size .0) (a .mode)) _ (up .set-up .ensures) (c .before .enum-told2 .given .1) _ (c .none-found .ensures)
 
 good-arena-requires : tie.Need-good-arena-requires
-good-arena-requires c κs = search good-ways
+good-arena-requires c κs = search (good-align block-land)
 
 check-find-requires : tie.Need-check-find-requires
-check-find-requires c κs = search good-ways
+check-find-requires c κs = search (good-positive block-land)
 
 find-size-requires : tie.Need-find-size-requires
 find-size-requires c κs = search needs
 
 sound-requires : tie.Need-sound-requires
-sound-requires c κs = search good-ways
+sound-requires c κs = search good-ready
 
 enum-told-3 : tie.Need-enum-told-3
 enum-told-3 c = search needs

@@ -1,5 +1,7 @@
 -- `BlockLand::look` meets its contract: the set-up, then the one scan. Assumes nothing.
-use Rattle.block_land.proofs.Ways.{look-ways}
+use Rattle.model.proofs.LandWays.{look-bad}
+use Rattle.block_land.proofs.Land.{block-land}
+use Rattle.block_land.proofs.Ways.{good-ready, look-damaged, look-sound}
 use borrow.Author.Needs.{needs}
 use Rattle.block_land.proofs.BlockLand.look.Statement.{statement}
 use Rattle.block_land.proofs.BlockLand.look.Tie as tie
@@ -14,13 +16,13 @@ enum-told-2 : tie.Need-enum-told-2
 enum-told-2 c = search needs
 
 returns : tie.Need-returns
-returns c = search look-ways
+returns c = search (look-bad block-land)
 
 arena-requires : tie.Need-arena-requires
 arena-requires c κs = search needs
 
 survey-requires : tie.Need-survey-requires
-survey-requires c κs = search look-ways
+survey-requires c κs = search good-ready
 
 enum-told-3 : tie.Need-enum-told-3
 enum-told-3 c = search needs
@@ -29,10 +31,10 @@ enum-known-entry : tie.Need-enum-known-entry
 enum-known-entry c = search needs
 
 returns-2 : tie.Need-returns-2
-returns-2 c = search look-ways
+returns-2 c = search look-damaged
 
 returns-3 : tie.Need-returns-3
-returns-3 c = search look-ways
+returns-3 c = search look-sound
 
 pub look-spec : {M : Type 1} → statement M
 look-spec =

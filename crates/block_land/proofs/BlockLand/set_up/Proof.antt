@@ -1,5 +1,6 @@
 -- `BlockLand::set_up` meets its contract. Assumes nothing.
-use Rattle.block_land.proofs.Ways.{set-up-ways}
+use Rattle.model.proofs.LandWays.{set-up-bad, set-up-lent}
+use Rattle.block_land.proofs.Land.{block-land}
 use borrow.Author.Needs.{needs}
 use Rattle.block_land.proofs.BlockLand.set_up.Statement.{statement}
 use Rattle.block_land.proofs.BlockLand.set_up.Tie as tie
@@ -14,13 +15,13 @@ enum-told : tie.Need-enum-told
 enum-told c = search needs
 
 returns : tie.Need-returns
-returns c = search set-up-ways
+returns c = search (set-up-bad block-land)
 
 lent-requires : tie.Need-lent-requires
 lent-requires c κs = search needs
 
 returns-2 : tie.Need-returns-2
-returns-2 c = search set-up-ways
+returns-2 c = search (set-up-lent block-land)
 
 pub set-up-spec : {M : Type 1} → statement M
 set-up-spec =

@@ -4,11 +4,8 @@ use borrow.Author.Needs.{needs}
 use Rattle.list_land.proofs.ListLand.open.Statement.{statement}
 use Rattle.list_land.proofs.ListLand.open.Tie as tie
 
-new-requires : tie.Need-new-requires
-new-requires c κs = search needs
-
-new-requires-2 : tie.Need-new-requires-2
-new-requires-2 c κs = search needs
+new-land-requires : tie.Need-new-land-requires
+new-land-requires c κs = search needs
 
 set-up-requires : tie.Need-set-up-requires
 set-up-requires c κs = search needs
@@ -19,20 +16,14 @@ enum-told c = search needs
 enum-told-2 : tie.Need-enum-told-2
 enum-told-2 c = search needs
 
-new-requires-3 : tie.Need-new-requires-3
-new-requires-3 c κs = search needs
+new-requires : tie.Need-new-requires
+new-requires c κs = search needs
 
-new-requires-4 : tie.Need-new-requires-4
-new-requires-4 c κs = search needs
+new-requires-2 : tie.Need-new-requires-2
+new-requires-2 c κs = search needs
 
-new-requires-5 : tie.Need-new-requires-5
-new-requires-5 c κs = search needs
-
-new-requires-6 : tie.Need-new-requires-6
-new-requires-6 c κs = search needs
-
-new-requires-7 : tie.Need-new-requires-7
-new-requires-7 c κs = search needs
+new-land-requires-2 : tie.Need-new-land-requires-2
+new-land-requires-2 c κs = search needs
 
 returns : tie.Need-returns
 returns c = search open-ways
@@ -44,15 +35,12 @@ pub open-spec : {M : Type 1} → statement M
 open-spec =
     tie.close
     (tie.spec
-    new-requires
-    new-requires-2
+    new-land-requires
     set-up-requires
     enum-told
     enum-told-2
-    new-requires-3
-    new-requires-4
-    new-requires-5
-    new-requires-6
-    new-requires-7
+    new-requires
+    new-requires-2
+    new-land-requires-2
     returns
     returns-2)

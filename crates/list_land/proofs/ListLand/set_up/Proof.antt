@@ -1,5 +1,7 @@
 -- `ListLand::set_up` meets its contract. Assumes nothing.
-use Rattle.list_land.proofs.Ways.{set-up-ways}
+use Rattle.model.proofs.LandWays.{set-up-bad, set-up-order, set-up-lent}
+use Rattle.list_land.proofs.Land.{list-land}
+use Rattle.list_land.proofs.Ways.{lent-good, lent-bad}
 use borrow.Author.Needs.{needs}
 use Rattle.list_land.proofs.ListLand.set_up.Statement.{statement}
 use Rattle.list_land.proofs.ListLand.set_up.Tie as tie
@@ -14,16 +16,16 @@ enum-told : tie.Need-enum-told
 enum-told c = search needs
 
 returns : tie.Need-returns
-returns c = search set-up-ways
+returns c = search (set-up-bad list-land)
 
 word-from-requires : tie.Need-word-from-requires
-word-from-requires c κs = search set-up-ways
+word-from-requires c κs = search (set-up-order list-land)
 
 returns-2 : tie.Need-returns-2
-returns-2 c = search set-up-ways
+returns-2 c = search (set-up-lent list-land, lent-good)
 
 returns-3 : tie.Need-returns-3
-returns-3 c = search set-up-ways
+returns-3 c = search (set-up-lent list-land, lent-bad)
 
 pub set-up-spec : {M : Type 1} → statement M
 set-up-spec =
