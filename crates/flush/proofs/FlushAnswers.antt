@@ -5,11 +5,9 @@ use mathlib.Core.List.{List}
 use mathlib.Core.Path.{_≡_, sym, ap, _∙_}
 use native.Mathlib.Omega.{arith}
 use lib.ListN.{length, length-append}
-use Rattle.units.specs.Rules.{goodAlign}
 use Rattle.units.specs.Words.{addr}
 use Rattle.units.specs.declared.Size.{Size}
 use Rattle.units.specs.declared.rules.Arena as units
-use Rattle.units.proofs.Facts.{arena-facts}
 use Rattle.units.proofs.Tests.{and-left}
 use Rattle.model.specs.Marks.{Range, total}
 use Rattle.model.specs.Calls.{Arena}
@@ -64,9 +62,6 @@ module _ (h : ListLand) (ws : List ℕ) (k : BlockLand) (vs : List ℕ) (g : che
             (same-apart (k .base .0) (h .base .0) (k .limit .0) (h .limit .0) (block.tableOf k vs) (sym (o .base)) (sym (o .limit)) (f .apart))
             (same-aligned (k .align .0) (h .align .0) (block.tableOf k vs) (sym (o .align)) (f .aligned));
       })
-
-  pub going-align : (a : units.Arena) → a ≡ list-parts.arenaIn h → goodAlign (a .align .0) ≡ true
-  going-align a ea = arena-facts (a .base .0) (a .limit .0) (a .align .0) (going a ea .ready .arena) .align
 
   abbrev met : List Range
   met = list.walkOf h ws .met

@@ -87,7 +87,7 @@ fn flush_all(list: ListLand, words: &[u64], block: BlockLand, nodes: &mut [u64])
     ensures { λ r. ⌜ (r ≡ flushed list (now (words .entry)) block (now (nodes .entry)) .result) × (now (nodes .exit) ≡ flushed list (now (words .entry)) block (now (nodes .entry)) .nodes) ⌝ }
 {
     let head = list.head;
-    let done = transfers::transfer(list.arena().divided(), words, head, nodes, block.ranges);
+    let done = transfers::transfer(list.arena(), words, head, nodes, block.ranges);
     let at = done.at;
     let bytes = done.bytes;
     Flushed {

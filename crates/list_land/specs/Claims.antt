@@ -8,9 +8,9 @@ use lib.ListN.{length, getD}
 use Rattle.model.specs.Marks.{Range, none-marked, marksOf}
 use Rattle.model.specs.Answers.{LandRight}
 use Rattle.model.specs.Layouts.{with-host}
-use Rattle.model.specs.Lands.{LandLayout}
+use Rattle.model.specs.Lands.{ranges-in, LandLayout}
 use Rattle.model.specs.Demand.{ClaimsFrom}
-use Rattle.list_land.specs.Layout.{base, setUp, walkOf, sound, readOf, ranges-in, layout}
+use Rattle.list_land.specs.Layout.{base, setUp, walkOf, sound, readOf, layout}
 use Rattle.list_land.specs.Calls.{openedOf}
 use Rattle.list_land.specs.declared.ListLand.{ListLand}
 

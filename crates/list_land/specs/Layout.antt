@@ -1,7 +1,7 @@
 -- How a list handle and the arena's words stand for a list of ranges. Assumes nothing.
 use Prim.Native.Nat.{ℕ}
 use mathlib.Core.Bool.{Bool, true, _&&_}
-use mathlib.Core.List.{List, []}
+use mathlib.Core.List.{List}
 use mathlib.Core.Option.{none}
 use mathlib.Core.Path.{_≡_}
 use lib.Dec.{eqb}
@@ -12,8 +12,8 @@ use Rattle.units.specs.declared.Addr.{Addr}
 use Rattle.units.specs.declared.Size.{Size}
 use Rattle.model.specs.Marks.{Range, total}
 use Rattle.model.specs.Calls.{Arena}
-use Rattle.model.specs.Layouts.{Reading, fault, holding, reading}
-use Rattle.model.specs.Lands.{LandLayout}
+use Rattle.model.specs.Layouts.{Reading, reading}
+use Rattle.model.specs.Lands.{ranges-in, LandLayout}
 use Rattle.list_words.specs.Words.{Walk, walkFrom, soundWalk}
 use Rattle.list_words.specs.Laying.{head-of, lay, described}
 use Rattle.list_land.specs.declared.ListLand.{ListLand}
@@ -53,10 +53,6 @@ closedWith h head n s = record { base = h .base; limit = h .limit; align = h .al
 -- The handle after an accepted call: head is the base of the first range, or 0; the number of ranges and of free bytes.
 abbrev pub closed : ListLand → List Range → ListLand
 closed h rs = closedWith h (addr (head-of rs)) (length rs) (record { 0 = total rs })
-
-abbrev pub ranges-in : Reading (List Range) → List Range
-ranges-in (fault n) = []
-ranges-in (holding rs) = rs
 
 -- Between calls the host may write every word but those of the present descriptors.
 abbrev pub layout : LandLayout ListLand

@@ -9,7 +9,7 @@ use Rattle.model.specs.Marks.{marksOf}
 use Rattle.model.specs.Calls.{Arena, Outcome}
 use Rattle.model.specs.Layouts.{Layout, with-host}
 use Rattle.model.specs.Histories.{Seen, History}
-use Rattle.model.specs.Lands.{Shown, land-answers}
+use Rattle.model.specs.Lands.{ranges-in, Shown, land-answers}
 use Rattle.list_land.specs.Layout as list
 use Rattle.list_land.specs.Calls as list-calls
 use Rattle.list_land.specs.declared.ListLand.{ListLand}
@@ -42,8 +42,8 @@ OpenedDemand3 = Demand3For (pair-layout list.layout block.layout)
 -- The word number i of the arena is free in either land: its first byte is in a range of one of them.
 abbrev pub free-word : Both ListLand BlockLand → Both (List ℕ) (List ℕ) → ℕ → Bool
 free-word h w i =
-    marksOf (list.ranges-in (list.readOf (h .list) (w .list))) (list.base (h .list) + 8 * i)
-    || marksOf (list.ranges-in (block.readOf (h .block) (w .block))) (list.base (h .list) + 8 * i)
+    marksOf (ranges-in (list.readOf (h .list) (w .list))) (list.base (h .list) + 8 * i)
+    || marksOf (ranges-in (block.readOf (h .block) (w .block))) (list.base (h .list) + 8 * i)
 
 -- The request's own host writes words that are free in neither land: every word that is free in either stays the same, and so does
 -- every pair word of node space.

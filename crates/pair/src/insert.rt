@@ -48,7 +48,7 @@ impl Pair {
         let list = self.list;
         let block = self.block;
         let head = list.head;
-        let done = transfers::transfer(list.arena().divided(), words, head, nodes, block.ranges);
+        let done = transfers::transfer(list.arena(), words, head, nodes, block.ranges);
         let at = done.at;
         let ranges = list.ranges - done.moved;
         let moved = done.bytes;

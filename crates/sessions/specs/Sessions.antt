@@ -5,12 +5,11 @@ use mathlib.Core.Path.{_≡_}
 use Rattle.units.specs.Words.{rangeOf}
 use Rattle.units.specs.declared.Mode.{Mode}
 use Rattle.units.specs.declared.Which.{Which}
-use Rattle.model.specs.Marks.{rng}
+use Rattle.model.specs.Marks.{rng, marksOf}
 use Rattle.model.specs.Calls.{Call, insert, delete, find, walk, Outcome, refused, accepted}
 use Rattle.model.specs.Layouts.{Done}
 use Rattle.model.specs.Histories.{Seen, expected}
-use Rattle.model.specs.Lands.{Shown, reference-rules, LandLayout}
-use Rattle.model.specs.Demand.{bytes-read}
+use Rattle.model.specs.Lands.{ranges-in, Shown, reference-rules, LandLayout}
 use Rattle.list_land.specs.Calls as list
 use Rattle.list_land.specs.Layout as list-layout
 use Rattle.list_land.specs.declared.ListLand.{ListLand}
@@ -65,7 +64,7 @@ outs [] = []
 outs (o ∷ os) = o .out ∷ outs os
 
 abbrev by-reference : {H : Type 0} → LandLayout H → Session H → List Outcome
-by-reference R s = outs (expected reference-rules (R .arena (s .handle) (s .words)) (calls (s .cases)) (bytes-read (R .read (s .handle) (s .words))))
+by-reference R s = outs (expected reference-rules (R .arena (s .handle) (s .words)) (calls (s .cases)) (marksOf (ranges-in (R .read (s .handle) (s .words)))))
 
 -- The public calls and the reference model both end as the session says.
 abbrev Holds : AnySession → Type 0

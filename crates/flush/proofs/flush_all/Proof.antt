@@ -1,6 +1,5 @@
 -- `flush_all` meets its contract: the transfer, and both handles closed. Assumes nothing.
-use Rattle.flush.proofs.FlushAnswers.{going, going-align, fewer, less, room, accepted}
-use mathlib.Core.Path.{_∙_}
+use Rattle.flush.proofs.FlushAnswers.{going, fewer, less, room, accepted}
 use borrow.Author.Needs.{needs}
 use Rattle.flush.proofs.flush_all.Statement.{statement}
 use Rattle.flush.proofs.flush_all.Tie as tie
@@ -8,23 +7,32 @@ use Rattle.flush.proofs.flush_all.Tie as tie
 arena-requires : tie.Need-arena-requires
 arena-requires c κs = search needs
 
-divided-requires : tie.Need-divided-requires
-divided-requires c κs = going-align _ _ _ _ (c .before .before .before .before .pre) _ (c .arena .ensures)
-
 transfer-requires : tie.Need-transfer-requires
-transfer-requires c κs = going _ _ _ _ (c .before .before .before .before .before .before .pre) _ (c .before .divided .ensures ∙ c .before .before .arena .ensures)
+transfer-requires c κs = going _ _ _ _ (c .before .before .before .before .before .pre) _ (c .before .arena .ensures)
 
 sub-close : tie.Need-sub-close
-sub-close c = fewer _ _ _ _ (c .before .before .before .before .before .before .before .before .before .before .before .before .before .pre) _ (c .before .before .before .before .before .before .before .before .divided .ensures ∙ c .before .before .before .before .before .before .before .before .before .arena .ensures) _ _ (c .before .before .before .before .before .before .transfer .ensures)
+sub-close c =
+    let after-transfer = c .before .before .before .before .before .before in
+    let after-arena = after-transfer .before .before in
+    let start = after-arena .before .before .before .before in
+    fewer _ _ _ _ (start .pre) _ (after-arena .arena .ensures) _ _ (after-transfer .transfer .ensures)
 
 minus-requires : tie.Need-minus-requires
-minus-requires c κs = less _ _ _ _ (c .before .before .before .before .before .before .before .before .before .before .before .before .before .pre) _ (c .before .before .before .before .before .before .before .before .divided .ensures ∙ c .before .before .before .before .before .before .before .before .before .arena .ensures) _ _ (c .before .before .before .before .before .before .transfer .ensures)
+minus-requires c κs =
+    let after-transfer = c .before .before .before .before .before .before in
+    let after-arena = after-transfer .before .before in
+    let start = after-arena .before .before .before .before in
+    less _ _ _ _ (start .pre) _ (after-arena .arena .ensures) _ _ (after-transfer .transfer .ensures)
 
 close-requires : tie.Need-close-requires
 close-requires c κs = search needs
 
 plus-requires : tie.Need-plus-requires
-plus-requires c κs = room _ _ _ _ (c .before .before .before .before .before .before .before .before .before .before .before .before .before .before .before .pre) _ (c .before .before .before .before .before .before .before .before .before .before .divided .ensures ∙ c .before .before .before .before .before .before .before .before .before .before .before .arena .ensures) _ _ (c .before .before .before .before .before .before .before .before .transfer .ensures)
+plus-requires c κs =
+    let after-transfer = c .before .before .before .before .before .before .before .before in
+    let after-arena = after-transfer .before .before in
+    let start = after-arena .before .before .before .before in
+    room _ _ _ _ (start .pre) _ (after-arena .arena .ensures) _ _ (after-transfer .transfer .ensures)
 
 close-requires-2 : tie.Need-close-requires-2
 close-requires-2 c κs = search needs
@@ -34,14 +42,17 @@ same-length c = search needs
 
 returns : tie.Need-returns
 returns c =
-    accepted _ _ _ _ (c .before .before .before .before .before .before .before .before .before .before .before .before .before .before .before .before .before .pre) _ (c .before .before .before .before .before .before .before .before .before .before .before .before .divided .ensures ∙ c .before .before .before .before .before .before .before .before .before .before .before .before .before .arena .ensures) _ _ (c .before .before .before .before .before .before .before .before .before .before .transfer .ensures) _ (c .before .before .before .minus .ensures) _ (c .before .before .close .ensures) _ (c .before .plus .ensures) _ (c .close2 .ensures)
+    let after-minus = c .before .before .before in
+    let after-transfer = after-minus .before .before .before .before .before .before .before in
+    let after-arena = after-transfer .before .before in
+    let start = after-arena .before .before .before .before in
+    accepted _ _ _ _ (start .pre) _ (after-arena .arena .ensures) _ _ (after-transfer .transfer .ensures) _ (after-minus .minus .ensures) _ (c .before .before .close .ensures) _ (c .before .plus .ensures) _ (c .close2 .ensures)
 
 pub flush-all-spec : {M : Type 1} → statement M
 flush-all-spec =
     tie.close
     (tie.spec
     arena-requires
-    divided-requires
     transfer-requires
     sub-close
     minus-requires

@@ -30,7 +30,10 @@ size-requires : tie.Need-size-requires
 size-requires c κs = search needs
 
 minus-requires : tie.Need-minus-requires
-minus-requires c κs = let n = held-cut _ _ _ _ _ (c .before .before .before .before .before .before .before .before .before .before .pre) .bytes in search needs
+minus-requires c κs =
+    let between = c .before .before .before .before .before in
+    let start = between .before .before .before .before .before in
+    let n = held-cut _ _ _ _ _ (start .pre) .bytes in search needs
 
 store-requires : tie.Need-store-requires
 store-requires c κs = search cut-ways

@@ -25,7 +25,11 @@ describe-requires : tie.Need-describe-requires Inv-loop μ-loop
 describe-requires c κs = search needs
 
 put-out-requires : tie.Need-put-out-requires Inv-loop μ-loop
-put-out-requires c κs = let told = c .before .before .before .before .describe .ensures in told-inside (c .before .before .before .before .before .before .before .before .loop .script) (now (c .before .before .before .before .before .before .before .before .before .before .before .args .words)) (c .before .before .before .before .before .before .before .before .loop .out) _ _ (told .0) (told .1)
+put-out-requires c κs =
+    let after-describe = c .before .before .before .before in
+    let at-loop = after-describe .before .before .before .before in
+    let start = at-loop .before .before .before in
+    let told = after-describe .describe .ensures in told-inside (at-loop .loop .script) (now (start .args .words)) (at-loop .loop .out) _ _ (told .0) (told .1)
 
 same-length : tie.Need-same-length Inv-loop μ-loop
 same-length c = search needs
@@ -35,7 +39,11 @@ returns c = tt
 
 loop-less : tie.Need-loop-less Inv-loop μ-loop
 loop-less c =
-    told-less (c .before .before .before .before .before .before .before .before .before .before .loop .script) _ _ _ (omega arith) (sym (c .before .before .before .before .before .before .before .before .before .is-describing .ensures) ∙ c .before .before .before .before .before .before .before .before .if1 .taken) (c .before .before .before .before .before .before .describe .ensures .0)
+    let after-describe = c .before .before .before .before .before .before in
+    let after-if1 = after-describe .before .before in
+    let after-is-describing = after-if1 .before in
+    let at-loop = after-is-describing .before in
+    told-less (at-loop .loop .script) _ _ _ (omega arith) (sym (after-is-describing .is-describing .ensures) ∙ after-if1 .if1 .taken) (after-describe .describe .ensures .0)
 
 loop-again : tie.Need-loop-again Inv-loop μ-loop
 loop-again c = search needs

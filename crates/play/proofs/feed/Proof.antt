@@ -34,14 +34,20 @@ feed-requires c κs = search needs
 
 add-from : tie.Need-add-from Inv-loop μ-loop
 add-from c =
-    let at = c .before .before .before .before .before .before .before .before .before .before .loop in
-    omega (arith, used-of-part (now (c .before .before .before .before .before .before .before .before .before .before .before .before .before .before .args .bytes)) (at .from) (at .script) _ _ _ (c .before .before .before .before .before .feed .ensures .0) (omega (arith, at .inv .2)))
+    let after-feed = c .before .before .before .before .before in
+    let at-loop = after-feed .before .before .before .before .before in
+    let start = at-loop .before .before .before .before in
+    let at = at-loop .loop in
+    omega (arith, used-of-part (now (start .args .bytes)) (at .from) (at .script) _ _ _ (after-feed .feed .ensures .0) (omega (arith, at .inv .2)))
 
 put-out-requires : tie.Need-put-out-requires Inv-loop μ-loop
 put-out-requires c κs =
-    let at = c .before .before .before .before .before .before .before .before .before .before .before .loop in
-    let fed = c .before .before .before .before .before .before .feed .ensures in
-    fed-inside (at .script) (at .words) (at .out) _ _ (now (c .before .before .before .before .before .before .before .before .before .before .before .before .before .before .before .args .bytes)) (at .from) (fed .0) (fed .1 .1)
+    let after-feed = c .before .before .before .before .before .before in
+    let at-loop = after-feed .before .before .before .before .before in
+    let start = at-loop .before .before .before .before in
+    let at = at-loop .loop in
+    let fed = after-feed .feed .ensures in
+    fed-inside (at .script) (at .words) (at .out) _ _ (now (start .args .bytes)) (at .from) (fed .0) (fed .1 .1)
 
 same-length : tie.Need-same-length Inv-loop μ-loop
 same-length c = search needs
@@ -69,22 +75,31 @@ returns-2 c = search needs
 
 loop-less : tie.Need-loop-less Inv-loop μ-loop
 loop-less c =
-    let at = c .before .before .before .before .before .before .before .before .before .before .before .before .before .before .before .before .before .before .before .before .before .loop in
-    let start = c .before .before .before .before .before .before .before .before .before .before .before .before .before .before .before .before .before .before .before .before .before .before .before .before .before in
+    let between = c .before .before .before .before .before .before .before .before in
+    let after-feed = between .before .before .before .before .before .before .before .before in
+    let after-loop-test = after-feed .before .before .before .before in
+    let at-loop = after-loop-test .before in
+    let start = at-loop .before .before .before .before in
+    let at = at-loop .loop in
     let bytes = now (start .args .bytes) in
-    let fed = c .before .before .before .before .before .before .before .before .before .before .before .before .before .before .before .before .feed .ensures .0 in
-    let used = uses-some bytes (at .from) (at .script) _ _ _ fed (c .before .before .before .before .before .before .before .before .before .before .before .before .before .before .before .before .before .before .before .before .loop-test .taken) (omega (arith, start .pre .0, at .inv .1)) (at .inv .3) in
+    let fed = after-feed .feed .ensures .0 in
+    let used = uses-some bytes (at .from) (at .script) _ _ _ fed (after-loop-test .loop-test .taken) (omega (arith, start .pre .0, at .inv .1)) (at .inv .3) in
     let inside = used-of-part bytes (at .from) (at .script) _ _ _ fed (at .inv .2) in
     omega arith
 
 loop-again : tie.Need-loop-again Inv-loop μ-loop
 loop-again c =
-    let at = c .before .before .before .before .before .before .before .before .before .before .before .before .before .before .before .before .before .before .before .before .before .loop in
-    let fed = c .before .before .before .before .before .before .before .before .before .before .before .before .before .before .before .before .feed in (
+    let after-describe = c .before .before .before .before .before in
+    let between = after-describe .before .before .before .before .before .before in
+    let after-feed = between .before .before .before .before .before in
+    let at-loop = after-feed .before .before .before .before .before in
+    let start = at-loop .before .before .before .before in
+    let at = at-loop .loop in
+    let fed = after-feed .feed in (
       omega (arith, fed .kept .1 .0, at .inv .0),
-      omega (arith, fed .kept .1 .1 .0, c .before .before .before .before .before .describe .kept .1 .1 .0, at .inv .1),
-      used-of-part (now (c .before .before .before .before .before .before .before .before .before .before .before .before .before .before .before .before .before .before .before .before .before .before .before .before .before .args .bytes)) (at .from) (at .script) _ _ _ (fed .ensures .0) (at .inv .2),
-      search (still-more, c .before .before .before .before .before .describe .ensures),
+      omega (arith, fed .kept .1 .1 .0, after-describe .describe .kept .1 .1 .0, at .inv .1),
+      used-of-part (now (start .args .bytes)) (at .from) (at .script) _ _ _ (fed .ensures .0) (at .inv .2),
+      search (still-more, after-describe .describe .ensures),
     )
 
 same-length-5 : tie.Need-same-length-5 Inv-loop μ-loop

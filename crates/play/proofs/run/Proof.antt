@@ -68,8 +68,10 @@ loop-less c = search needs
 
 loop-again : tie.Need-loop-again Inv-loop μ-loop
 loop-again c =
-    let step = c .before .before .before .before .before .before .before .before .before .read-on in
-    let inv = c .before .before .before .before .before .before .before .before .before .before .before .before .before .before .loop .inv in (
+    let after-read-on = c .before .before .before .before .before .before .before .before .before in
+    let at-loop = after-read-on .before .before .before .before .before in
+    let step = after-read-on .read-on in
+    let inv = at-loop .loop .inv in (
       omega (arith, step .kept .1 .0, inv .0),
       omega (arith, step .kept .1 .1 .0, inv .1),
       omega (arith, step .kept .1 .1 .1 .0, inv .2),

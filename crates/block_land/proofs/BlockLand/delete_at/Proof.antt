@@ -99,9 +99,11 @@ same-length-3 c = search needs
 
 returns-4 : tie.Need-returns-4
 returns-4 c =
-    let checked = c .before .before .before .before .before .before .before .before .before .before in
+    let after-old = c .before .before .before .before in
+    let after-cut-out = after-old .before .before .before .before in
+    let checked = after-cut-out .before .before in
     let entry = checked .before .before .before .before .before in
-    delete-0 _ _ (entry .args .range) _ (entry .pre) (good checked) _ _ (c .before .before .before .before .before .before .before .before .cut-out .ensures) _ _ (c .before .before .before .before .old .given .1) _ (c .before .before .size .ensures) _ (c .before .minus .ensures) _ (c .close .ensures)
+    delete-0 _ _ (entry .args .range) _ (entry .pre) (good checked) _ _ (after-cut-out .cut-out .ensures) _ _ (after-old .old .given .1) _ (c .before .before .size .ensures) _ (c .before .minus .ensures) _ (c .close .ensures)
 
 pub delete-at-spec : {M : Type 1} → statement M
 delete-at-spec =

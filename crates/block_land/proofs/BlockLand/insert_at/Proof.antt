@@ -99,9 +99,11 @@ same-length-3 c = search needs
 
 returns-4 : tie.Need-returns-4
 returns-4 c =
-    let checked = c .before .before .before .before .before .before .before .before .before .before in
+    let after-fresh = c .before .before .before .before in
+    let after-put-at = after-fresh .before .before .before .before in
+    let checked = after-put-at .before .before in
     let entry = checked .before .before .before .before .before in
-    insert-0 _ _ (entry .args .range) _ (entry .pre) (good checked) _ _ (c .before .before .before .before .before .before .before .before .put-at .ensures) _ _ (c .before .before .before .before .fresh .given .1) _ (c .before .before .size .ensures) _ (c .before .plus .ensures) _ (c .close .ensures)
+    insert-0 _ _ (entry .args .range) _ (entry .pre) (good checked) _ _ (after-put-at .put-at .ensures) _ _ (after-fresh .fresh .given .1) _ (c .before .before .size .ensures) _ (c .before .plus .ensures) _ (c .close .ensures)
 
 pub insert-at-spec : {M : Type 1} → statement M
 insert-at-spec =

@@ -31,14 +31,26 @@ refused-requires c κs = search needs
 
 returns : tie.Need-returns
 returns c =
-    nowhere-7 _ _ _ (c .before .before .before .before .before .before .before .before .before .before .before .before .args .range) (c .before .before .before .before .before .before .before .before .before .before .before .before .pre) _ (c .before .before .before .before .before .before .before .arena .ensures) _ (c .before .before .before .before .before .before .list-share .ensures) _ (c .before .before .before .before .before .table-share .ensures) _ (c .before .before .before .before .plus .ensures) _ (c .before .before .before .size .ensures) _ (c .before .before .same .ensures) (c .before .if1 .taken) _ (c .refused .ensures)
+    let after-size = c .before .before .before in
+    let after-plus = after-size .before in
+    let after-table-share = after-plus .before in
+    let after-list-share = after-table-share .before in
+    let after-arena = after-list-share .before in
+    let start = after-arena .before .before .before .before .before in
+    nowhere-7 _ _ _ (start .args .range) (start .pre) _ (after-arena .arena .ensures) _ (after-list-share .list-share .ensures) _ (after-table-share .table-share .ensures) _ (after-plus .plus .ensures) _ (after-size .size .ensures) _ (c .before .before .same .ensures) (c .before .if1 .taken) _ (c .refused .ensures)
 
 refused-requires-2 : tie.Need-refused-requires-2
 refused-requires-2 c κs = search needs
 
 returns-2 : tie.Need-returns-2
 returns-2 c =
-    nowhere-1 _ _ _ (c .before .before .before .before .before .before .before .before .before .before .before .before .args .range) (c .before .before .before .before .before .before .before .before .before .before .before .before .pre) _ (c .before .before .before .before .before .before .before .arena .ensures) _ (c .before .before .before .before .before .before .list-share .ensures) _ (c .before .before .before .before .before .table-share .ensures) _ (c .before .before .before .before .plus .ensures) _ (c .before .before .before .size .ensures) _ (c .before .before .same .ensures) (c .before .if1 .left) _ (c .refused2 .ensures)
+    let after-size = c .before .before .before in
+    let after-plus = after-size .before in
+    let after-table-share = after-plus .before in
+    let after-list-share = after-table-share .before in
+    let after-arena = after-list-share .before in
+    let start = after-arena .before .before .before .before .before in
+    nowhere-1 _ _ _ (start .args .range) (start .pre) _ (after-arena .arena .ensures) _ (after-list-share .list-share .ensures) _ (after-table-share .table-share .ensures) _ (after-plus .plus .ensures) _ (after-size .size .ensures) _ (c .before .before .same .ensures) (c .before .if1 .left) _ (c .refused2 .ensures)
 
 pub refuse-delete-spec : {M : Type 1} → statement M
 refuse-delete-spec =

@@ -22,7 +22,12 @@ same-length : tie.Need-same-length
 same-length c = search needs
 
 returns-2 : tie.Need-returns-2
-returns-2 c = ends-open (c .before .before .before .before .before .before .before .before .before .before .before .before .before .args .self) _ _ _ _ _ _ (c .before .before .before .before .before .before .before .before .before .begun .ensures) (c .before .before .before .before .before .before .before .before .if2 .taken) (omega arith) (c .before .before .before .before .before .before .put-byte .ensures) (c .before .before .put-byte2 .ensures)
+returns-2 c =
+    let after-put-byte = c .before .before .before .before .before .before in
+    let after-if2 = after-put-byte .before .before in
+    let after-begun = after-if2 .before in
+    let start = after-begun .before .before .before .before in
+    ends-open (start .args .self) _ _ _ _ _ _ (after-begun .begun .ensures) (after-if2 .if2 .taken) (omega arith) (after-put-byte .put-byte .ensures) (c .before .before .put-byte2 .ensures)
 
 returns-3 : tie.Need-returns-3
 returns-3 c =

@@ -24,16 +24,21 @@ line-requires : tie.Need-line-requires Inv-loop μ-loop
 line-requires c κs = search needs
 
 same-length : tie.Need-same-length Inv-loop μ-loop
-same-length c = omega (arith, c .before .before .before .before .before .line .kept .1 .0, c .before .before .before .before .before .before .before .before .before .before .before .loop .inv .0)
+same-length c =
+    let after-line = c .before .before .before .before .before in
+    let at-loop = after-line .before .before .before .before .before .before in
+    omega (arith, after-line .line .kept .1 .0, at-loop .loop .inv .0)
 
 same-length-2 : tie.Need-same-length-2 Inv-loop μ-loop
 same-length-2 c = search needs
 
 returns : tie.Need-returns Inv-loop μ-loop
 returns c =
-    let inv = c .before .before .before .before .before .before .before .before .before .before .before .loop .inv in
-    let line = c .before .before .before .before .before .line .ensures in
-    let closed = closes-full _ _ _ _ _ _ _ (goes-then (inv .1) (line .0)) (c .before .before .before .before .before .before .before .before .before .before .before .loop .out) (inv .1 .size) (c .if2 .taken) (line .1 .stops (c .if2 .taken)) in
+    let after-line = c .before .before .before .before .before in
+    let at-loop = after-line .before .before .before .before .before .before in
+    let inv = at-loop .loop .inv in
+    let line = after-line .line .ensures in
+    let closed = closes-full _ _ _ _ _ _ _ (goes-then (inv .1) (line .0)) (at-loop .loop .out) (inv .1 .size) (c .if2 .taken) (line .1 .stops (c .if2 .taken)) in
     (closed .result, (closed .words, closed .buffer))
 
 loop-less : tie.Need-loop-less Inv-loop μ-loop
@@ -45,8 +50,10 @@ loop-less c =
 
 loop-again : tie.Need-loop-again Inv-loop μ-loop
 loop-again c =
-    let inv = c .before .before .before .before .before .before .before .before .before .before .before .loop .inv in
-    let line = c .before .before .before .before .before .line in (
+    let after-line = c .before .before .before .before .before in
+    let at-loop = after-line .before .before .before .before .before .before in
+    let inv = at-loop .loop .inv in
+    let line = after-line .line in (
       omega (arith, line .kept .1 .0, inv .0),
       goes-then (inv .1) (line .ensures .0),
       c .if2 .left,

@@ -30,8 +30,12 @@ request-requires c κs = search needs
 
 play-requires : tie.Need-play-requires
 play-requires c κs =
-    let x = c .before .before .before .before .before .before .before .before .before .before .before .before .before .before .args in
-    has-room (x .self .stage) (now (x .out)) (x .at) _ (c .before .before .before .before .is-ready .ensures) (c .before .before .before .if2 .taken)
+    let after-if2 = c .before .before .before in
+    let after-is-ready = after-if2 .before in
+    let between = after-is-ready .before .before .before .before .before in
+    let start = between .before .before .before .before .before in
+    let x = start .args in
+    has-room (x .self .stage) (now (x .out)) (x .at) _ (after-is-ready .is-ready .ensures) (after-if2 .if2 .taken)
 
 new-requires : tie.Need-new-requires
 new-requires c κs = search needs
@@ -44,19 +48,29 @@ same-length-2 c = search needs
 
 returns-2 : tie.Need-returns-2
 returns-2 c =
-    let x = c .before .before .before .before .before .before .before .before .before .before .before .before .before .before .before .before .before .before .before .before .args in
-    let read = c .before .before .before .before .before .before .before .before .before .before .before .before .before .before .before .read .ensures in
+    let after-play = c .before .before .before .before .before in
+    let after-request = after-play .before .before in
+    let after-if2 = after-request .before .before in
+    let after-is-ready = after-if2 .before in
+    let after-if1 = after-is-ready .before .before in
+    let after-read = after-if1 .before .before .before in
+    let start = after-read .before .before .before .before .before in
+    let x = start .args in
+    let read = after-read .read .ensures in
     let from = read .start in (
-      line-turn (x .self) _ _ _ _ read _ (x .at) _ (c .before .before .before .before .before .before .before .before .before .before .is-ready .ensures) (c .before .before .before .before .before .before .before .before .before .if2 .taken) (c .before .before .before .before .before .before .before .before .before .before .before .before .if1 .left) _ (c .before .before .before .before .before .before .before .request .ensures) _ _ _
-          (c .before .before .before .before .before .play .ensures) _ (c .new .ensures),
+      line-turn (x .self) _ _ _ _ read _ (x .at) _ (after-is-ready .is-ready .ensures) (after-if2 .if2 .taken) (after-if1 .if1 .left) _ (after-request .request .ensures) _ _ _
+          (after-play .play .ensures) _ (c .new .ensures),
       moves-on _ _ _ _ _ refl (λ k. omega arith),
     )
 
 returns-3 : tie.Need-returns-3
 returns-3 c =
-    let x = c .before .before .before .before .before .before .before .before .before .before .before .args .self in
-    let read = c .before .before .before .before .before .before .read .ensures in
-    (line-part x _ _ _ _ read _ _ true (omega arith), line-stops x _ _ _ _ read _ _ _ (c .before .is-ready .ensures) (c .if2 .left) (c .before .before .before .if1 .left))
+    let after-if1 = c .before .before .before in
+    let after-read = after-if1 .before .before .before in
+    let start = after-read .before .before .before .before .before in
+    let x = start .args .self in
+    let read = after-read .read .ensures in
+    (line-part x _ _ _ _ read _ _ true (omega arith), line-stops x _ _ _ _ read _ _ _ (c .before .is-ready .ensures) (c .if2 .left) (after-if1 .if1 .left))
 
 pub line-spec : {M : Type 1} → statement M
 line-spec =

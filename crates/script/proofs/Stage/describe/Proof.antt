@@ -29,7 +29,11 @@ same-length : tie.Need-same-length
 same-length c = search needs
 
 returns : tie.Need-returns
-returns c = tells (c .before .before .before .before .before .before .before .before .before .before .before .before .args .self) _ _ _ _ _ _ (search needs) (c .before .before .before .before .before .before .words-between .ensures) (c .before .before .before .before .before .fit .ensures) (c .before .before .lines-from .ensures)
+returns c =
+    let after-fit = c .before .before .before .before .before in
+    let after-words-between = after-fit .before in
+    let start = after-words-between .before .before .before .before .before .before in
+    tells (start .args .self) _ _ _ _ _ _ (search needs) (after-words-between .words-between .ensures) (after-fit .fit .ensures) (c .before .before .lines-from .ensures)
 
 returns-2 : tie.Need-returns-2
 returns-2 c = search tells-closed

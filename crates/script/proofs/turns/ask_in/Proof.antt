@@ -28,7 +28,11 @@ same-length-2 c = search needs
 
 returns : tie.Need-returns
 returns c =
-    on-part (λ part. land-turn (c .before .before .before .before .before .before .before .before .before .before .before .before .args .land) part (c .before .before .before .before .before .before .before .before .before .before .before .before .args .request)) _ _ _ _ _ _ (c .before .before .before .before .before .before .before .before .before .words-between .ensures) (c .before .before .before .before .before .before .before .fit .ensures) (c .before .before .before .before .ask .ensures)
+    let after-ask = c .before .before .before .before in
+    let after-fit = after-ask .before .before .before in
+    let after-words-between = after-fit .before .before in
+    let start = after-words-between .before .before .before in
+    on-part (λ part. land-turn (start .args .land) part (start .args .request)) _ _ _ _ _ _ (after-words-between .words-between .ensures) (after-fit .fit .ensures) (after-ask .ask .ensures)
 
 pub ask-in-spec : {M : Type 1} → statement M
 ask-in-spec =

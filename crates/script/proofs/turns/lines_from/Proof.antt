@@ -42,7 +42,12 @@ loop-less c = omega (arith, tell-less _ _ _ (c .before .before .put-two .ensures
 
 loop-again : tie.Need-loop-again Inv-loop μ-loop
 loop-again c =
-    tell-next _ _ _ _ _ _ _ (c .before .before .before .before .before .before .before .before .before .before .before .before .loop .inv) (c .before .before .before .before .before .before .before .before .before .before .walk .result) (c .before .before .before .before .before .before .before .before .before .before .walk .ensures .0) (c .before .before .before .before .before .before .before .before .if1 .left) _ _ (c .before .before .before .before .number .ensures) (c .before .before .before .number2 .ensures) (omega arith) _ _
+    let after-number2 = c .before .before .before in
+    let after-number = after-number2 .before in
+    let after-if1 = after-number .before .before .before .before in
+    let after-walk = after-if1 .before .before in
+    let at-loop = after-walk .before .before in
+    tell-next _ _ _ _ _ _ _ (at-loop .loop .inv) (after-walk .walk .result) (after-walk .walk .ensures .0) (after-if1 .if1 .left) _ _ (after-number .number .ensures) (after-number2 .number2 .ensures) (omega arith) _ _
     (c .before .before .put-two .ensures)
 
 same-length-2 : tie.Need-same-length-2 Inv-loop μ-loop

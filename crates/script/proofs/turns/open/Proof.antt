@@ -20,7 +20,12 @@ same-length-2 : tie.Need-same-length-2
 same-length-2 c = search needs
 
 returns : tie.Need-returns
-returns c = arena-opens _ _ (c .before .before .before .before .before .before .before .before .before .before .before .before .before .before .before .args .arena) (c .before .before .before .before .before .before .before .before .before .before .before .open .result) (c .before .before .before .before .before .before .before .before .before .before .before .open .ensures) (c .before .before .before .before .before .before .before .before .before .if1 .taken) _ (c .before .before .before .before .before .before .before .clear .ensures) (c .before .before .put .ensures)
+returns c =
+    let after-clear = c .before .before .before .before .before .before .before in
+    let after-if1 = after-clear .before .before in
+    let after-open = after-if1 .before .before in
+    let start = after-open .before .before .before .before in
+    arena-opens _ _ (start .args .arena) (after-open .open .result) (after-open .open .ensures) (after-if1 .if1 .taken) _ (after-clear .clear .ensures) (c .before .before .put .ensures)
 
 put-requires-2 : tie.Need-put-requires-2
 put-requires-2 c κs = search needs
@@ -32,7 +37,11 @@ same-length-4 : tie.Need-same-length-4
 same-length-4 c = search needs
 
 returns-2 : tie.Need-returns-2
-returns-2 c = arena-refused _ _ (c .before .before .before .before .before .before .before .before .before .before .args .arena) (c .before .before .before .before .before .before .open .result) (c .before .before .before .before .before .before .open .ensures) (c .before .before .before .before .if1 .left) (c .before .before .put2 .ensures)
+returns-2 c =
+    let after-if1 = c .before .before .before .before in
+    let after-open = after-if1 .before .before in
+    let start = after-open .before .before .before .before in
+    arena-refused _ _ (start .args .arena) (after-open .open .result) (after-open .open .ensures) (after-if1 .if1 .left) (c .before .before .put2 .ensures)
 
 pub open-spec : {M : Type 1} → statement M
 open-spec =

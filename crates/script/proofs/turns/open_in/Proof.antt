@@ -28,8 +28,12 @@ same-length-2 c = search needs
 
 returns : tie.Need-returns
 returns c =
-    let x = c .before .before .before .before .before .before .before .before .before .before .before .before .args in
-    on-part (arena-turn (x .stage) (x .arena .base) (x .arena .limit) (x .arena .align)) _ _ _ _ _ _ (c .before .before .before .before .before .before .before .before .before .words-between .ensures) (c .before .before .before .before .before .before .before .fit .ensures) (c .before .before .before .before .open .ensures)
+    let after-open = c .before .before .before .before in
+    let after-fit = after-open .before .before .before in
+    let after-words-between = after-fit .before .before in
+    let start = after-words-between .before .before .before in
+    let x = start .args in
+    on-part (arena-turn (x .stage) (x .arena .base) (x .arena .limit) (x .arena .align)) _ _ _ _ _ _ (after-words-between .words-between .ensures) (after-fit .fit .ensures) (after-open .open .ensures)
 
 pub open-in-spec : {M : Type 1} → statement M
 open-in-spec =

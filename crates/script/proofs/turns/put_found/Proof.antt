@@ -27,8 +27,14 @@ same-length c = search needs
 
 returns : tie.Need-returns
 returns c =
-    says-found (c .before .before .before .before .before .before .before .before .before .before .before .before .before .before .before .before .args .f) _ _ _ _ _ _ (c .before .before .before .before .before .before .number .ensures) (c .before .before .before .before .before .number2 .ensures) (c .before .before .before .before .number3 .ensures) (c .before .before .before .number4 .ensures)
-    (c .before .before .before .before .before .before .before .before .before .before .put .ensures) (c .before .before .put-four .ensures)
+    let after-number4 = c .before .before .before in
+    let after-number3 = after-number4 .before in
+    let after-number2 = after-number3 .before in
+    let after-number = after-number2 .before in
+    let after-put = after-number .before .before .before .before in
+    let start = after-put .before .before .before .before .before .before in
+    says-found (start .args .f) _ _ _ _ _ _ (after-number .number .ensures) (after-number2 .number2 .ensures) (after-number3 .number3 .ensures) (after-number4 .number4 .ensures)
+    (after-put .put .ensures) (c .before .before .put-four .ensures)
 
 pub put-found-spec : {M : Type 1} → statement M
 put-found-spec =
