@@ -13,8 +13,8 @@ use Rattle.units.specs.declared.aims.Aim.{Aim}
 use Rattle.model.specs.Calls.{Call, insert, delete, good-range}
 use Rattle.model.specs.Marks.{total}
 use Rattle.model.specs.inner.Lists.{delete-from}
-use Rattle.model.proofs.EditAnswers as answers
-use Rattle.model.proofs.EditAnswers.{Edits, insert-edits, delete-edits}
+use Rattle.model.proofs.lands.EditAnswers as answers
+use Rattle.model.proofs.lands.EditAnswers.{Edits, insert-edits, delete-edits}
 use Rattle.model.proofs.Requests.{range-rules}
 use Rattle.model.proofs.Totals.{total-insert, total-delete}
 use Rattle.block_words.specs.Words.{capacity}

@@ -20,8 +20,8 @@ use Rattle.model.specs.Calls.{good-size}
 use Rattle.model.specs.inner.Lists.{delete-from, plain}
 use Rattle.model.specs.Marks.{struct, total}
 use Rattle.model.specs.inner.Steps.{part}
-use Rattle.model.proofs.FindAnswers as answers
-use Rattle.model.proofs.FindAnswers.{find-long, find-part, find-fewer}
+use Rattle.model.proofs.lands.FindAnswers as answers
+use Rattle.model.proofs.lands.FindAnswers.{find-long, find-part, find-fewer}
 use Rattle.model.proofs.Parts.{PartOf}
 use Rattle.model.proofs.Totals.{total-delete}
 use Rattle.finds.specs.inner.Parts.{Within}

@@ -10,7 +10,7 @@ use Rattle.model.specs.Calls.{Call}
 use Rattle.model.specs.Lands.{land-call}
 use Rattle.model.specs.Layouts.{reading}
 use Rattle.model.proofs.Aiming.{picked-by}
-use Rattle.model.proofs.Land.{Land, check-of}
+use Rattle.model.proofs.lands.Land.{Land, check-of}
 use Rattle.block_words.specs.inner.Surveys.{entryOf}
 use Rattle.block_words.specs.declared.Entry.{Entry}
 use Rattle.block_edits.proofs.Entering.{entry-here}

@@ -14,7 +14,7 @@ use Rattle.units.specs.declared.rules.Arena.{Arena}
 use Rattle.units.specs.declared.rules.SetUp.{SetUp}
 use Rattle.units.specs.declared.rules.Soundness.{Soundness}
 use Rattle.units.proofs.Cases.{set-up-true, set-up-false, sound-true, sound-false}
-use Rattle.model.proofs.LandWays.{look-told}
+use Rattle.model.proofs.lands.Ways.{look-told}
 use Rattle.block_words.specs.inner.Tallies.{Ready}
 use Rattle.block_words.specs.inner.Surveys.{entryOf, Rising, surveyOf}
 use Rattle.block_words.specs.declared.Entry.{Entry}

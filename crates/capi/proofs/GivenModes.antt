@@ -11,8 +11,8 @@ use Rattle.units.specs.declared.aims.Aim.{Aim}
 use Rattle.units.proofs.Alignments.{Missed}
 use Rattle.model.specs.Calls.{Outcome, refused}
 use Rattle.model.specs.Layouts.{Done}
-use Rattle.model.proofs.Land.{Land}
-use Rattle.model.proofs.Looking.{said, look-said}
+use Rattle.model.proofs.lands.Land.{Land}
+use Rattle.model.proofs.lands.Looking.{said, look-said}
 use Rattle.capi.specs.Modes.{givenMode, unknownMode, refusalAfter, withMode}
 use Rattle.capi.specs.declared.modes.Given.{Given}
 

@@ -7,8 +7,8 @@ use Rattle.units.specs.declared.Range.{Range}
 use Rattle.units.specs.declared.aims.Aim.{Aim}
 use Rattle.units.specs.declared.rules.Arena.{Arena}
 use Rattle.model.specs.Calls.{Call, insert, delete, good-range}
-use Rattle.model.proofs.EditAnswers as answers
-use Rattle.model.proofs.EditAnswers.{Edits, insert-edits, delete-edits}
+use Rattle.model.proofs.lands.EditAnswers as answers
+use Rattle.model.proofs.lands.EditAnswers.{Edits, insert-edits, delete-edits}
 use Rattle.list_words.specs.declared.Spot.{Spot}
 use Rattle.list_words.specs.declared.Chain.{Chain}
 use Rattle.list_edits.specs.inner.Chains.{metOf, Held, mayAsk, editedNumber, edited, editedWords, putOf, putWords, cutOf, cutOutWords}

@@ -17,8 +17,8 @@ use Rattle.model.specs.Calls.{good-size}
 use Rattle.model.specs.inner.Lists.{delete-from, plain}
 use Rattle.model.specs.Marks.{struct}
 use Rattle.model.specs.inner.Steps.{part}
-use Rattle.model.proofs.FindAnswers as answers
-use Rattle.model.proofs.FindAnswers.{find-long, find-part}
+use Rattle.model.proofs.lands.FindAnswers as answers
+use Rattle.model.proofs.lands.FindAnswers.{find-long, find-part}
 use Rattle.finds.specs.inner.Parts.{Within}
 use Rattle.list_words.specs.declared.Spot.{Spot}
 use Rattle.list_words.specs.declared.Chain.{Chain}

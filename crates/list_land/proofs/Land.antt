@@ -15,7 +15,7 @@ use Rattle.model.specs.Layouts.{reading}
 use Rattle.model.specs.Marks.{Range}
 use Rattle.model.specs.inner.Picks.{here-of}
 use Rattle.model.proofs.Aiming.{pick-by}
-use Rattle.model.proofs.Land.{Land, check-of}
+use Rattle.model.proofs.lands.Land.{Land, check-of}
 use Rattle.list_words.specs.inner.Surveys.{kept-of}
 use Rattle.list_words.specs.declared.Spot.{Spot}
 use Rattle.list_words.proofs.Keeping.{SpotOf, kept-placed}

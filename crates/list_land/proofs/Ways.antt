@@ -15,7 +15,7 @@ use Rattle.units.specs.declared.aims.Aim.{Aim}
 use Rattle.units.specs.declared.rules.Arena.{Arena}
 use Rattle.units.specs.declared.rules.SetUp.{SetUp}
 use Rattle.units.proofs.Cases.{set-up-true, set-up-false}
-use Rattle.model.proofs.LandWays.{look-told}
+use Rattle.model.proofs.lands.Ways.{look-told}
 use Rattle.list_words.specs.inner.Surveys.{Ready, kept-of, surveyOf}
 use Rattle.list_words.specs.declared.Chain.{Chain}
 use Rattle.list_words.specs.declared.Spot.{Spot}

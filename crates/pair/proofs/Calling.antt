@@ -10,7 +10,7 @@ use Rattle.units.proofs.Tests.{by, and-left, and-right}
 use Rattle.model.specs.Calls.{refused, accepted}
 use Rattle.model.specs.Layouts.{Reading, fault, holding}
 use Rattle.model.specs.Marks.{Range}
-use Rattle.model.proofs.Looking.{said, said-5, said-6, said-0}
+use Rattle.model.proofs.lands.Looking.{said, said-5, said-6, said-0}
 use Rattle.model.proofs.Outcomes.{fault-number}
 use Rattle.list_words.specs.Laying.{lay}
 use Rattle.list_words.specs.inner.Surveys.{kept-of}

@@ -10,7 +10,7 @@ use Rattle.units.specs.declared.Size.{Size}
 use Rattle.model.specs.Calls.{good-range, accepted}
 use Rattle.model.specs.Marks.{Range, rng, struct}
 use Rattle.model.specs.inner.Lists.{holds, holder}
-use Rattle.model.proofs.Looking.{kept-reach}
+use Rattle.model.proofs.lands.Looking.{kept-reach}
 use Rattle.model.proofs.Totals.{total-delete}
 use Rattle.list_words.specs.Laying.{lay}
 use Rattle.list_words.specs.declared.Spot.{Spot}

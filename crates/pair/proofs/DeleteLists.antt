@@ -12,7 +12,7 @@ use Rattle.model.specs.Calls.{good-range}
 use Rattle.model.specs.Marks.{Range, struct}
 use Rattle.model.specs.inner.Lists.{holds, holder}
 use Rattle.model.specs.inner.Picks.{here-of}
-use Rattle.model.proofs.Looking.{kept-reach}
+use Rattle.model.proofs.lands.Looking.{kept-reach}
 use Rattle.model.proofs.Reaching.{reach}
 use Rattle.model.proofs.Requests.{range-rules}
 use Rattle.model.proofs.Surrounding.{held}

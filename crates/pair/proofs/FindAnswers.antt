@@ -20,7 +20,7 @@ use Rattle.model.specs.Calls.{Arena, Step, good-size, size-number, find-size, u
 use Rattle.model.specs.Marks.{Range}
 use Rattle.model.specs.inner.Steps.{list-ops, choose, step}
 use Rattle.model.proofs.Checks.{size-bad, size-good}
-use Rattle.model.proofs.FindAnswers.{chosen, chosen-above, chosen-order}
+use Rattle.model.proofs.lands.FindAnswers.{chosen, chosen-above, chosen-order}
 use Rattle.model.proofs.Requests.{size-refused}
 use Rattle.list_words.specs.declared.Spot.{Spot}
 use Rattle.list_land.specs.Calls as list-calls
@@ -163,6 +163,10 @@ module _ (p : Pair) (ws vs : List ℕ) (w : Which) (n : Size) (mode : Mode) (v :
   find-6 = answers-6 p ws vs (Aim.Find w n) v ev foundOf (find w (n .0) mode) (found p ws vs w (n .0) mode) (is-found p ws vs w (n .0) mode)
 
 -- THE SIZE
+-- a pair that was checked, and what a find of a good size keeps of it
+abbrev pub Asked : Pair → List ℕ → List ℕ → Which → Size → Spot → Entry → Type 0
+Asked p ws vs w n s e = Checked p ws vs (findAim p w n) s e × (good-size (block.arenaOf (p .block) vs) w (n .0) ≡ true)
+
 module _ (p : Pair) (ws vs : List ℕ) (w : Which) (n : Size) (s : Spot) (e : Entry) (k : Checked p ws vs (aimIn p (Aim.Find w n)) s e)
     (x : units-arena.Arena) (ex : x ≡ block-parts.arenaIn (p .block)) where
   pub find-positive : 0 < x .align .0
@@ -181,7 +185,7 @@ module _ (p : Pair) (ws vs : List ℕ) (w : Which) (n : Size) (s : Spot) (e : En
         refuse foundOf p ws vs 4 (found p ws vs w (n .0) mode)
         (is-found p ws vs w (n .0) mode ∙ refuses p ws vs (aimIn p (Aim.Find w n)) s e k (find w (n .0) mode) 4 refl (rw z))
 
-    pub find-ready : c ≡ SizeCheck.Good → Checked p ws vs (findAim p w n) s e × (good-size (block.arenaOf (p .block) vs) w (n .0) ≡ true)
+    pub find-ready : c ≡ SizeCheck.Good → Asked p ws vs w n s e
     find-ready g =
         let a = block-parts.arenaIn (p .block) in
         let f : findCheck w (a .base .0) (a .limit .0) (a .align .0) (n .0) ≡ SizeCheck.Good =

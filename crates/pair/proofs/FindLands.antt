@@ -11,9 +11,9 @@ use Rattle.model.specs.inner.Looks.{Chose}
 use Rattle.model.specs.Marks.{Range}
 use Rattle.model.specs.inner.Steps.{list-ops, choose, part, taken, step}
 use Rattle.model.proofs.Chosen.{some-chosen}
-use Rattle.model.proofs.FindAnswers.{find-aim, chosen}
-use Rattle.model.proofs.Land.{Land}
-use Rattle.model.proofs.Looking.{fine, step-done}
+use Rattle.model.proofs.lands.FindAnswers.{find-aim, chosen}
+use Rattle.model.proofs.lands.Land.{Land}
+use Rattle.model.proofs.lands.Looking.{fine, step-done}
 use Rattle.pair_model.proofs.LandFinds.{find-gives}
 
 -- an accepted step of a land

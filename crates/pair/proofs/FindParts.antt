@@ -14,7 +14,7 @@ use Rattle.units.proofs.Mode as mode-type
 use Rattle.model.specs.Marks.{struct}
 use Rattle.model.specs.inner.Lists.{plain}
 use Rattle.model.specs.inner.Steps.{part}
-use Rattle.model.proofs.FindAnswers.{find-kept, find-part, find-0}
+use Rattle.model.proofs.lands.FindAnswers.{find-kept, find-part, find-0}
 use Rattle.finds.specs.inner.Parts.{Within}
 use Rattle.list_words.specs.Laying.{lay}
 use Rattle.list_words.specs.declared.Spot.{Spot}

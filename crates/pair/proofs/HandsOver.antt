@@ -21,7 +21,7 @@ use Rattle.model.proofs.Bytes.{mem-from, mem-upto}
 use Rattle.model.proofs.Bytewise.{holds-all}
 use Rattle.model.proofs.Counting.{cut-end}
 use Rattle.model.proofs.Parts.{Stands, mem-stands}
-use Rattle.model.proofs.Looking.{kept-reach}
+use Rattle.model.proofs.lands.Looking.{kept-reach}
 use Rattle.model.proofs.Requests.{range-rules, rules-range}
 use Rattle.model.proofs.Surrounding.{Held, held}
 use Rattle.list_words.specs.Laying.{lay}

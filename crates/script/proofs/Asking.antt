@@ -9,7 +9,7 @@ use Rattle.units.specs.declared.Mode.{Mode}
 use Rattle.units.specs.declared.Range.{Range}
 use Rattle.units.specs.declared.Size.{Size}
 use Rattle.units.specs.declared.Which.{Which}
-use Rattle.model.proofs.WalkAnswers.{walk-words}
+use Rattle.model.proofs.lands.WalkAnswers.{walk-words}
 use Rattle.list_land.specs.Calls.{LandDone, inserted, deleted, found, walked, changed, foundOf}
 use Rattle.list_land.specs.declared.Changed.{Changed}
 use Rattle.list_land.specs.declared.Found.{Found}

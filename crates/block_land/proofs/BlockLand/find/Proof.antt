@@ -1,16 +1,30 @@
 -- `BlockLand::find` meets its contract: 5, 6, 4, and then the entry chosen. Assumes nothing.
-use mathlib.Core.Path.{refl}
+use mathlib.Core.Path.{_≡_, refl}
+use denote.Ref.{now}
 use borrow.Author.Needs.{needs}
 use Rattle.units.specs.declared.aims.Aim.{Aim}
 use Rattle.units.proofs.Cases.{set-up-true}
 use Rattle.units.proofs.Taking.{aim-good}
 use Rattle.model.specs.Calls.{find}
-use Rattle.model.proofs.FindAnswers.{find-5, find-6, find-4, find-ready}
-use Rattle.model.proofs.LandWays.{good-align, good-positive}
+use Rattle.model.proofs.lands.FindAnswers.{find-5, find-6, find-4, find-ready}
+use Rattle.model.proofs.lands.Ways.{good-align, good-positive}
+use Rattle.block_words.specs.Words.{pairs}
+use Rattle.block_words.specs.declared.Entry.{Entry}
+use Rattle.block_words.specs.inner.Surveys.{entryOf}
+use Rattle.block_land.specs.inner.Parts.{Looked}
 use Rattle.block_land.proofs.Land.{block-land}
 use Rattle.block_land.proofs.Ways.{good-ready, table-damaged, table-rising, table-kept}
 use Rattle.block_land.proofs.BlockLand.find.Statement.{statement}
 use Rattle.block_land.proofs.BlockLand.find.Tie as tie
+
+-- the table is sound, and what an aim keeps of it
+kept : (k : tie.After-enum-told3) → let arena = k .before .before .before .before .before .before .before in let a = arena .before .before .before .before .before .before .args in
+    (aim : Aim) (d : Entry) → d ≡ entryOf aim (pairs (now (a .nodes)) (a .self .ranges)) → Looked (a .self) (now (a .nodes)) aim d
+kept k =
+    let table = k .before .before in
+    let arena = table .before .before .before .before .before in
+    let good = arena .before in
+    table-kept _ _ _ (good .before .before .set-up .ensures) (good .enum-told .given .1) _ (arena .good-arena .ensures) _ (table .sound .ensures) (k .enum-told3 .given .1)
 
 set-up-requires : tie.Need-set-up-requires
 set-up-requires c κs = search needs
@@ -81,43 +95,30 @@ same-length-3 c = search needs
 returns-3 : tie.Need-returns-3
 returns-3 c =
     let told = c .before .before in
-    let table = told .before .before in
-    let size = table .before .before .before in
-    let check = size .before in
+    let check = told .before .before .before .before .before .before in
     let arena = check .before in
-    let good = arena .before in
-    let up = good .before .before in
-    let a = up .before .before .before .args in
-    find-4 block-land _ _ (a .which) (a .size) _ (arena .good-arena .ensures) _ (check .check-find .ensures) _ _
-    (table-kept _ _ _ (up .set-up .ensures) (good .enum-told .given .1) _ (arena .good-arena .ensures) _ (table .sound .ensures) (told .enum-told3 .given .1) Aim.Nothing _ refl)
+    let a = arena .before .before .before .before .before .before .args in
+    find-4 block-land _ _ (a .which) (a .size) _ (arena .good-arena .ensures) _ (check .check-find .ensures) _ _ (kept told Aim.Nothing _ refl)
     (c .before .match3 .keys2) (a .mode) _ (c .none-found3 .ensures)
 
 found-requires : tie.Need-found-requires
 found-requires c κs =
     let told = c .before .before .before in
     let table = told .before .before in
-    let size = table .before .before .before in
-    let check = size .before in
-    let arena = check .before in
+    let arena = table .before .before .before .before .before in
     let good = arena .before in
-    let up = good .before .before in
-    let a = up .before .before .before .args in
-    table-rising _ _ _ (up .set-up .ensures) (good .enum-told .given .1) _ (arena .good-arena .ensures) _ (table .sound .ensures) (told .enum-told3 .given .1)
+    table-rising _ _ _ (good .before .before .set-up .ensures) (good .enum-told .given .1) _ (arena .good-arena .ensures) _ (table .sound .ensures) (told .enum-told3 .given .1)
 
 find-at-requires : tie.Need-find-at-requires
 find-at-requires c κs =
     let found = c .before in
     let told5 = found .before .before in
     let told = told5 .before .before in
-    let table = told .before .before in
-    let size = table .before .before .before in
+    let size = told .before .before .before .before .before in
     let check = size .before in
     let arena = check .before in
-    let good = arena .before in
-    let up = good .before .before in
-    let a = up .before .before .before .args in
-    find-ready block-land _ _ (a .which) (a .size) _ (arena .good-arena .ensures) _ (check .check-find .ensures) _ _
-    (table-kept _ _ _ (up .set-up .ensures) (good .enum-told .given .1) _ (arena .good-arena .ensures) _ (table .sound .ensures) (told .enum-told3 .given .1) _ _ (found .found .ensures))
+    let a = arena .before .before .before .before .before .before .args in
+    find-ready block-land _ _ (a .which) (a .size) _ (arena .good-arena .ensures) _ (check .check-find .ensures) _ _ (kept told _ _ (found .found .ensures))
     (told5 .enum-told5 .given .1) _ (size .find-size .ensures) (aim-good _ _ _ (told5 .enum-told5 .given .1))
 
 same-length-4 : tie.Need-same-length-4

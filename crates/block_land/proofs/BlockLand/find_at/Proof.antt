@@ -1,6 +1,6 @@
 -- `BlockLand::find_at` meets its contract: 2, the range as it stands, and a part of it taken out. Assumes nothing.
 use borrow.Author.Needs.{needs}
-use Rattle.model.proofs.FindAnswers.{find-2, find-kept}
+use Rattle.model.proofs.lands.FindAnswers.{find-2, find-kept}
 use Rattle.block_land.proofs.Land.{block-land}
 use Rattle.block_land.proofs.FindAnswers.{find-within, find-holding, find-fits, find-order, find-room, find-0}
 use Rattle.block_land.proofs.BlockLand.find_at.Statement.{statement}

@@ -5,7 +5,7 @@ use mathlib.Core.Path.{_≡_}
 use Rattle.model.specs.Calls.{good-range}
 use Rattle.model.proofs.Checks.{range-bad, range-good}
 use Rattle.block_land.specs.Layout.{arenaOf}
-use Rattle.model.proofs.EditAnswers.{edit-4, insert-edits}
+use Rattle.model.proofs.lands.EditAnswers.{edit-4, insert-edits}
 use Rattle.block_land.proofs.Land.{block-land}
 use Rattle.block_land.proofs.Requests.{readable, looked-spot, looked-positive, looked-align, sorted, edit-order, edit-order-le}
 use Rattle.block_land.proofs.EditAnswers.{insert-1, insert-3, insert-room, insert-0}

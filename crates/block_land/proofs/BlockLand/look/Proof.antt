@@ -1,5 +1,5 @@
 -- `BlockLand::look` meets its contract: the set-up, then the one scan. Assumes nothing.
-use Rattle.model.proofs.LandWays.{look-bad}
+use Rattle.model.proofs.lands.Ways.{look-bad}
 use Rattle.block_land.proofs.Land.{block-land}
 use Rattle.block_land.proofs.Ways.{good-ready, look-damaged, look-sound}
 use borrow.Author.Needs.{needs}

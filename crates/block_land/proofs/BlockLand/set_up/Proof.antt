@@ -1,5 +1,5 @@
 -- `BlockLand::set_up` meets its contract. Assumes nothing.
-use Rattle.model.proofs.LandWays.{set-up-bad, set-up-lent}
+use Rattle.model.proofs.lands.Ways.{set-up-bad, set-up-lent}
 use Rattle.block_land.proofs.Land.{block-land}
 use borrow.Author.Needs.{needs}
 use Rattle.block_land.proofs.BlockLand.set_up.Statement.{statement}

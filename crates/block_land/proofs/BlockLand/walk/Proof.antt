@@ -1,5 +1,5 @@
 -- `BlockLand::walk` meets its contract. Assumes nothing.
-use Rattle.model.proofs.WalkAnswers.{walk-words, walk-5, walk-6, walk-2, walk-0}
+use Rattle.model.proofs.lands.WalkAnswers.{walk-words, walk-5, walk-6, walk-2, walk-0}
 use Rattle.block_land.proofs.Land.{block-land}
 use borrow.Author.Needs.{needs}
 use Rattle.block_land.proofs.BlockLand.walk.Statement.{statement}

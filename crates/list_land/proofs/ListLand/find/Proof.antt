@@ -1,7 +1,7 @@
 -- `ListLand::find` meets its contract: 5, 6, and then the range chosen. Assumes nothing.
 use Rattle.model.specs.Calls.{find}
-use Rattle.model.proofs.FindAnswers.{looked-5, looked-6}
-use Rattle.model.proofs.Looking.{saw}
+use Rattle.model.proofs.lands.FindAnswers.{looked-5, looked-6}
+use Rattle.model.proofs.lands.Looking.{saw}
 use Rattle.list_land.proofs.Land.{list-land}
 use borrow.Author.Needs.{needs}
 use Rattle.list_land.proofs.ListLand.find.Statement.{statement}

@@ -1,7 +1,7 @@
 -- `ListLand::insert` meets its contract: 5, 6, and then the place. Assumes nothing.
 use Rattle.model.specs.Calls.{insert}
-use Rattle.model.proofs.EditAnswers.{edit-5, edit-6}
-use Rattle.model.proofs.Looking.{saw}
+use Rattle.model.proofs.lands.EditAnswers.{edit-5, edit-6}
+use Rattle.model.proofs.lands.Looking.{saw}
 use Rattle.list_land.proofs.Land.{list-land}
 use borrow.Author.Needs.{needs}
 use Rattle.list_land.proofs.ListLand.insert.Statement.{statement}

@@ -1,5 +1,5 @@
 -- `ListLand::look` meets its contract: the set-up, then the one walk. Assumes nothing.
-use Rattle.model.proofs.LandWays.{good-align, good-positive, look-bad}
+use Rattle.model.proofs.lands.Ways.{good-align, good-positive, look-bad}
 use Rattle.list_land.proofs.Land.{list-land}
 use Rattle.list_land.proofs.Ways.{good-ready, look-damaged, look-sound}
 use borrow.Author.Needs.{needs}

@@ -1,5 +1,5 @@
 -- `ListLand::set_up` meets its contract. Assumes nothing.
-use Rattle.model.proofs.LandWays.{set-up-bad, set-up-order, set-up-lent}
+use Rattle.model.proofs.lands.Ways.{set-up-bad, set-up-order, set-up-lent}
 use Rattle.list_land.proofs.Land.{list-land}
 use Rattle.list_land.proofs.Ways.{lent-good, lent-bad}
 use borrow.Author.Needs.{needs}

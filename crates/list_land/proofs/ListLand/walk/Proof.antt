@@ -1,5 +1,5 @@
 -- `ListLand::walk` meets its contract. Assumes nothing.
-use Rattle.model.proofs.WalkAnswers.{walk-words, walk-5, walk-6, walk-2, walk-0}
+use Rattle.model.proofs.lands.WalkAnswers.{walk-words, walk-5, walk-6, walk-2, walk-0}
 use Rattle.list_land.proofs.Land.{list-land}
 use borrow.Author.Needs.{needs}
 use Rattle.list_land.proofs.ListLand.walk.Statement.{statement}

@@ -1,5 +1,5 @@
 -- `none_found` meets its contract. Assumes nothing.
-use Rattle.model.proofs.LandWays.{none-made}
+use Rattle.model.proofs.lands.Ways.{none-made}
 use Rattle.list_land.proofs.Land.{list-land}
 use borrow.Author.Needs.{needs}
 use Rattle.list_land.proofs.find.none_found.Statement.{statement}

@@ -1,9 +1,17 @@
 -- `Pair::check` meets its contract: the first check that fails. Assumes nothing.
+use mathlib.Core.Bool.{true}
+use mathlib.Core.Path.{_≡_}
+use denote.Ref.{now}
 use Rattle.units.proofs.Cases.{set-up-true}
+use Rattle.pair.specs.Calls.{setUp}
 use Rattle.pair.proofs.Checking.{check-up, check-align, check-arena, check-positive, check-words, check-table, check-rising, check-walk, check-good}
 use borrow.Author.Needs.{needs}
 use Rattle.pair.proofs.Pair.check.Statement.{statement}
 use Rattle.pair.proofs.Pair.check.Tie as tie
+
+-- the set-up is good
+good : (k : tie.After-enum-told) → let a = k .before .before .before .before .before .args in setUp (a .self) (now (a .words)) (now (a .nodes)) ≡ true
+good k = set-up-true _ _ (k .before .before .set-up .ensures) (k .enum-told .given .1)
 
 set-up-requires : tie.Need-set-up-requires
 set-up-requires c κs = search needs
@@ -26,10 +34,8 @@ sound-requires : tie.Need-sound-requires
 sound-requires c κs =
     let arena = c .before in
     let told = arena .before .before .before in
-    let up = told .before .before in
-    let start = up .before .before .before in
-    let good = set-up-true _ _ (up .set-up .ensures) (told .enum-told .given .1) in
-    check-arena (start .args .self) _ _ (start .args .aim) good _ (arena .arena .ensures)
+    let a = told .before .before .before .before .before .args in
+    check-arena (a .self) _ _ (a .aim) (good told) _ (arena .arena .ensures)
 
 enum-told-3 : tie.Need-enum-told-3
 enum-told-3 c = search needs
@@ -42,28 +48,22 @@ returns-2 c =
     let sound = c .before .before in
     let arena = sound .before .before in
     let told = arena .before .before .before in
-    let up = told .before .before in
-    let start = up .before .before .before in
-    let good = set-up-true _ _ (up .set-up .ensures) (told .enum-told .given .1) in
-    check-table (start .args .self) _ _ (start .args .aim) good _ (arena .arena .ensures) _ (sound .sound .ensures) (c .enum-told4 .given .1)
+    let a = told .before .before .before .before .before .args in
+    check-table (a .self) _ _ (a .aim) (good told) _ (arena .arena .ensures) _ (sound .sound .ensures) (c .enum-told4 .given .1)
 
 divided-requires : tie.Need-divided-requires
 divided-requires c κs =
     let arena = c .before .before .before .before in
     let told = arena .before .before .before in
-    let up = told .before .before in
-    let start = up .before .before .before in
-    let good = set-up-true _ _ (up .set-up .ensures) (told .enum-told .given .1) in
-    check-align (start .args .self) _ _ (start .args .aim) good _ (arena .arena .ensures)
+    let a = told .before .before .before .before .before .args in
+    check-align (a .self) _ _ (a .aim) (good told) _ (arena .arena .ensures)
 
 aim-of-requires : tie.Need-aim-of-requires
 aim-of-requires c κs =
     let arena = c .before .before .before .before .before in
     let told = arena .before .before .before in
-    let up = told .before .before in
-    let start = up .before .before .before in
-    let good = set-up-true _ _ (up .set-up .ensures) (told .enum-told .given .1) in
-    check-positive (start .args .self) _ _ (start .args .aim) good _ (arena .arena .ensures) _ (c .divided .ensures)
+    let a = told .before .before .before .before .before .args in
+    check-positive (a .self) _ _ (a .aim) (good told) _ (arena .arena .ensures) _ (c .divided .ensures)
 
 chain-requires : tie.Need-chain-requires
 chain-requires c κs = search needs
@@ -76,10 +76,8 @@ survey-requires c κs =
     let sound = table .before .before in
     let arena = sound .before .before in
     let told = arena .before .before .before in
-    let up = told .before .before in
-    let start = up .before .before .before in
-    let good = set-up-true _ _ (up .set-up .ensures) (told .enum-told .given .1) in
-    (check-words (start .args .self) _ _ (start .args .aim) good _ (arena .arena .ensures) _ (divided .divided .ensures), check-rising (start .args .self) _ _ (start .args .aim) good _ (arena .arena .ensures) _ (sound .sound .ensures) (table .enum-told3 .given .1))
+    let a = told .before .before .before .before .before .args in
+    (check-words (a .self) _ _ (a .aim) (good told) _ (arena .arena .ensures) _ (divided .divided .ensures), check-rising (a .self) _ _ (a .aim) (good told) _ (arena .arena .ensures) _ (sound .sound .ensures) (table .enum-told3 .given .1))
 
 enum-known-spot : tie.Need-enum-known-spot
 enum-known-spot c = search needs
@@ -97,10 +95,8 @@ returns-3 c =
     let sound = table .before .before in
     let arena = sound .before .before in
     let told = arena .before .before .before in
-    let up = told .before .before in
-    let start = up .before .before .before in
-    let good = set-up-true _ _ (up .set-up .ensures) (told .enum-told .given .1) in
-    check-walk (start .args .self) _ _ (start .args .aim) good _ (arena .arena .ensures) _ (sound .sound .ensures) (table .enum-told3 .given .1)
+    let a = told .before .before .before .before .before .args in
+    check-walk (a .self) _ _ (a .aim) (good told) _ (arena .arena .ensures) _ (sound .sound .ensures) (table .enum-told3 .given .1)
     _ (divided .divided .ensures) _ (aim .aim-of .ensures) _ (chain .chain .ensures) _ (survey .survey .ensures) (c .enum-told5 .given .1)
 
 entry-requires : tie.Need-entry-requires
@@ -112,10 +108,8 @@ entry-requires c κs =
     let sound = table .before .before in
     let arena = sound .before .before in
     let told = arena .before .before .before in
-    let up = told .before .before in
-    let start = up .before .before .before in
-    let good = set-up-true _ _ (up .set-up .ensures) (told .enum-told .given .1) in
-    check-rising (start .args .self) _ _ (start .args .aim) good _ (arena .arena .ensures) _ (sound .sound .ensures) (table .enum-told3 .given .1)
+    let a = told .before .before .before .before .before .args in
+    check-rising (a .self) _ _ (a .aim) (good told) _ (arena .arena .ensures) _ (sound .sound .ensures) (table .enum-told3 .given .1)
 
 returns-4 : tie.Need-returns-4
 returns-4 c =
@@ -128,10 +122,8 @@ returns-4 c =
     let sound = table .before .before in
     let arena = sound .before .before in
     let told = arena .before .before .before in
-    let up = told .before .before in
-    let start = up .before .before .before in
-    let good = set-up-true _ _ (up .set-up .ensures) (told .enum-told .given .1) in
-    check-good (start .args .self) _ _ (start .args .aim) good _ (arena .arena .ensures) _ (sound .sound .ensures) (table .enum-told3 .given .1)
+    let a = told .before .before .before .before .before .args in
+    check-good (a .self) _ _ (a .aim) (good told) _ (arena .arena .ensures) _ (sound .sound .ensures) (table .enum-told3 .given .1)
     _ (divided .divided .ensures) _ (aim .aim-of .ensures) _ (chain .chain .ensures) _ (survey .survey .ensures) _ (spot .spot .given .1) _ (c .entry .ensures)
 
 pub check-spec : {M : Type 1} → statement M

@@ -1,8 +1,17 @@
 -- `Pair::find_at` meets its contract: 4, 2, the find in the list, the find in the block land. Assumes nothing.
-use Rattle.pair.proofs.FindAnswers.{find-positive, find-4, find-ready, find-ordered, find-2, list-chosen, find-list, block-chosen, find-block}
+use Rattle.pair.proofs.FindAnswers.{Asked, find-positive, find-4, find-ready, find-ordered, find-2, list-chosen, find-list, block-chosen, find-block}
+use denote.Ref.{now}
 use borrow.Author.Needs.{needs}
 use Rattle.pair.proofs.Pair.find_at.Statement.{statement}
 use Rattle.pair.proofs.Pair.find_at.Tie as tie
+
+-- the size is good
+asked : (k : tie.After-enum-told) → let a = k .before .before .before .before .before .before .before .args in Asked (a .self) (now (a .words)) (now (a .nodes)) (a .which) (a .size) (a .spot) (a .entry)
+asked k =
+    let check = k .before .before in
+    let arena = check .before in
+    let start = arena .before .before .before .before in
+    find-ready (start .args .self) _ _ (start .args .which) (start .args .size) _ _ (start .pre) _ (arena .arena .ensures) _ (check .check-find .ensures) (k .enum-told .given .1)
 
 arena-requires : tie.Need-arena-requires
 arena-requires c κs = search needs
@@ -29,12 +38,8 @@ returns c =
 choose-side-requires : tie.Need-choose-side-requires
 choose-side-requires c κs =
     let told = c in
-    let check = told .before .before in
-    let arena = check .before in
-    let start = arena .before .before .before .before in
-    let a = start .args in
-    let ready = find-ready (a .self) _ _ (a .which) (a .size) _ _ (start .pre) _ (arena .arena .ensures) _ (check .check-find .ensures) (told .enum-told .given .1) in
-    find-ordered (a .self) _ _ (a .which) (a .size) (a .mode) _ _ (ready .0)
+    let a = told .before .before .before .before .before .before .before .args in
+    find-ordered (a .self) _ _ (a .which) (a .size) (a .mode) _ _ (asked told .0)
 
 enum-told-2 : tie.Need-enum-told-2
 enum-told-2 c = search needs
@@ -49,12 +54,8 @@ find-in-list-requires : tie.Need-find-in-list-requires
 find-in-list-requires c κs =
     let side = c .before .before .before in
     let told = side .before in
-    let check = told .before .before in
-    let arena = check .before in
-    let start = arena .before .before .before .before in
-    let a = start .args in
-    let ready = find-ready (a .self) _ _ (a .which) (a .size) _ _ (start .pre) _ (arena .arena .ensures) _ (check .check-find .ensures) (told .enum-told .given .1) in
-    list-chosen (a .self) _ _ (a .which) (a .size) (a .mode) _ _ (ready .0) (ready .1) _ (side .choose-side .ensures) (c .before .enum-told3 .given .1)
+    let a = told .before .before .before .before .before .before .before .args in
+    list-chosen (a .self) _ _ (a .which) (a .size) (a .mode) _ _ (asked told .0) (asked told .1) _ (side .choose-side .ensures) (c .before .enum-told3 .given .1)
 
 enum-told-4 : tie.Need-enum-told-4
 enum-told-4 c = search needs
@@ -63,23 +64,15 @@ find-in-block-requires : tie.Need-find-in-block-requires
 find-in-block-requires c κs =
     let side = c .before .before .before in
     let told = side .before in
-    let check = told .before .before in
-    let arena = check .before in
-    let start = arena .before .before .before .before in
-    let a = start .args in
-    let ready = find-ready (a .self) _ _ (a .which) (a .size) _ _ (start .pre) _ (arena .arena .ensures) _ (check .check-find .ensures) (told .enum-told .given .1) in
-    block-chosen (a .self) _ _ (a .which) (a .size) (a .mode) _ _ (ready .0) (ready .1) _ (side .choose-side .ensures) (c .before .enum-told4 .given .1)
+    let a = told .before .before .before .before .before .before .before .args in
+    block-chosen (a .self) _ _ (a .which) (a .size) (a .mode) _ _ (asked told .0) (asked told .1) _ (side .choose-side .ensures) (c .before .enum-told4 .given .1)
 
 returns-2 : tie.Need-returns-2
 returns-2 c =
     let side = c .before .before .before in
     let told = side .before in
-    let check = told .before .before in
-    let arena = check .before in
-    let start = arena .before .before .before .before in
-    let a = start .args in
-    let ready = find-ready (a .self) _ _ (a .which) (a .size) _ _ (start .pre) _ (arena .arena .ensures) _ (check .check-find .ensures) (told .enum-told .given .1) in
-    find-2 (a .self) _ _ (a .which) (a .size) (a .mode) _ _ (ready .0) (ready .1) _ (side .choose-side .ensures) (c .before .enum-told2 .given .1) _ (c .none-found2 .ensures)
+    let a = told .before .before .before .before .before .before .before .args in
+    find-2 (a .self) _ _ (a .which) (a .size) (a .mode) _ _ (asked told .0) (asked told .1) _ (side .choose-side .ensures) (c .before .enum-told2 .given .1) _ (c .none-found2 .ensures)
 
 same-length : tie.Need-same-length
 same-length c = search needs
@@ -90,12 +83,8 @@ returns-3 c =
     let in-list = found .before .before in
     let side = in-list .before .before in
     let told = side .before in
-    let check = told .before .before in
-    let arena = check .before in
-    let start = arena .before .before .before .before in
-    let a = start .args in
-    let ready = find-ready (a .self) _ _ (a .which) (a .size) _ _ (start .pre) _ (arena .arena .ensures) _ (check .check-find .ensures) (told .enum-told .given .1) in
-    find-list (a .self) _ _ (a .which) (a .size) (a .mode) _ _ (ready .0) (ready .1) _ (side .choose-side .ensures) (in-list .enum-told3 .given .1) _ _ (found .find-in-list .ensures)
+    let a = told .before .before .before .before .before .before .before .args in
+    find-list (a .self) _ _ (a .which) (a .size) (a .mode) _ _ (asked told .0) (asked told .1) _ (side .choose-side .ensures) (in-list .enum-told3 .given .1) _ _ (found .find-in-list .ensures)
 
 same-length-2 : tie.Need-same-length-2
 same-length-2 c = search needs
@@ -106,12 +95,8 @@ returns-4 c =
     let in-block = found .before .before in
     let side = in-block .before .before in
     let told = side .before in
-    let check = told .before .before in
-    let arena = check .before in
-    let start = arena .before .before .before .before in
-    let a = start .args in
-    let ready = find-ready (a .self) _ _ (a .which) (a .size) _ _ (start .pre) _ (arena .arena .ensures) _ (check .check-find .ensures) (told .enum-told .given .1) in
-    find-block (a .self) _ _ (a .which) (a .size) (a .mode) _ _ (ready .0) (ready .1) _ (side .choose-side .ensures) (in-block .enum-told4 .given .1) _ _ (found .find-in-block .ensures)
+    let a = told .before .before .before .before .before .before .before .args in
+    find-block (a .self) _ _ (a .which) (a .size) (a .mode) _ _ (asked told .0) (asked told .1) _ (side .choose-side .ensures) (in-block .enum-told4 .given .1) _ _ (found .find-in-block .ensures)
 
 pub find-at-spec : {M : Type 1} → statement M
 find-at-spec =

@@ -13,8 +13,8 @@ use Rattle.model.specs.Calls.{Arena, Call, insert, delete, refused, acce
 use Rattle.model.specs.inner.Lists.{overlaps, holds, holder, insert-in, delete-from}
 use Rattle.model.specs.Marks.{Range, rng, struct}
 use Rattle.model.specs.inner.Steps.{list-ops, room-for, step}
-use Rattle.model.proofs.Land.{Land}
-use Rattle.model.proofs.Looking.{Kept, Changes, saw-5, saw-6, refused-change, step-refused, step-done, done-change}
+use Rattle.model.proofs.lands.Land.{Land}
+use Rattle.model.proofs.lands.Looking.{Kept, Changes, saw-5, saw-6, refused-change, step-refused, step-done, done-change}
 use Rattle.model.proofs.Requests.{range-refused}
 
 -- A call that edits a list: it is refused by 4, by 1 where `bad` (some byte is free already, or is not free), by 3 where there is

@@ -20,8 +20,8 @@ use Rattle.model.specs.inner.Picks.{here-of}
 use Rattle.model.specs.inner.Steps.{list-ops, step}
 use Rattle.model.proofs.Aiming.{pick-by, by-reach}
 use Rattle.model.proofs.Bytes.{mem-from}
-use Rattle.model.proofs.Land.{Land}
-use Rattle.model.proofs.LandWays.{above}
+use Rattle.model.proofs.lands.Land.{Land}
+use Rattle.model.proofs.lands.Ways.{above}
 use Rattle.model.proofs.Reaching.{reach}
 use Rattle.model.proofs.Outcomes.{call-fault, call-refused, call-accepted, fault-number, read-whole}
 

@@ -20,7 +20,7 @@ use Rattle.units.proofs.Tests.{by, and-left}
 use Rattle.units.proofs.rules.ArenaCheck as arena-type
 use Rattle.model.specs.Answers.{LandRight}
 use Rattle.model.proofs.Calling.{read-rows, call-right}
-use Rattle.model.proofs.Land.{Land, check-of}
+use Rattle.model.proofs.lands.Land.{Land, check-of}
 
 module _ {H L S C F : Type 0} (X : Land H L S C F) where
   -- A REFUSAL

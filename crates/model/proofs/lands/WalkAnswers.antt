@@ -16,9 +16,9 @@ use Rattle.model.proofs.Aiming.{by-from}
 use Rattle.model.proofs.Best.{next-mem}
 use Rattle.model.proofs.Chosen.{none-chosen, some-chosen}
 use Rattle.model.proofs.Finding.{walk-visits, walk-keeps}
-use Rattle.model.proofs.Land.{Land}
-use Rattle.model.proofs.LandWays.{above}
-use Rattle.model.proofs.Looking.{Kept, changed, read-back, saw, saw-5, saw-6, refused-change, fine, is-kept, mem-above, step-refused, done-change}
+use Rattle.model.proofs.lands.Land.{Land}
+use Rattle.model.proofs.lands.Ways.{above}
+use Rattle.model.proofs.lands.Looking.{Kept, changed, read-back, saw, saw-5, saw-6, refused-change, fine, is-kept, mem-above, step-refused, done-change}
 
 module _ {H L S C F : Type 0} (I : Land H L S C F) (h : H) (ws : List ℕ) where
   pub walk-words : (x : ℕ) → ws ≡ I .does (walk x) h ws .words

@@ -35,9 +35,9 @@ use Rattle.model.proofs.Choosing.{choose-mem}
 use Rattle.model.proofs.Chosen.{Choice, none-chosen, some-chosen}
 use Rattle.model.proofs.Counting.{room-for-fewer, cut-end}
 use Rattle.model.proofs.Finding.{find-none, find-takes}
-use Rattle.model.proofs.Land.{Land}
-use Rattle.model.proofs.LandWays.{above}
-use Rattle.model.proofs.Looking.{Kept, Finds, bad-is-5, damaged-is-6, saw-5, saw-6, refused-find, fine, is-kept, mem-above, step-refused, done-find}
+use Rattle.model.proofs.lands.Land.{Land}
+use Rattle.model.proofs.lands.Ways.{above}
+use Rattle.model.proofs.lands.Looking.{Kept, Finds, bad-is-5, damaged-is-6, saw-5, saw-6, refused-find, fine, is-kept, mem-above, step-refused, done-find}
 use Rattle.model.proofs.Parts.{PartOf, mem-stands, part-takes}
 use Rattle.model.proofs.Requests.{find-size-rules, size-refused}
 
@@ -45,6 +45,10 @@ module _ {H L S C F : Type 0} (I : Land H L S C F) (h : H) (ws : List ℕ) where
   -- the aim of a find of a good size
   abbrev pub find-aim : Which → Size → Aim
   find-aim w n = Aim.Find w (record { 0 = find-size (I .layout .arena h ws) (n .0) })
+
+  -- a sound land and what a find of a good size keeps of it
+  abbrev pub Asked : Which → Size → S → Type 0
+  Asked w n s = Kept I h ws (find-aim w n) s × (good-size (I .layout .arena h ws) w (n .0) ≡ true)
 
   -- 5 and 6, from the two tests
   module _ (c : Call) where
@@ -77,14 +81,13 @@ module _ {H L S C F : Type 0} (I : Land H L S C F) (h : H) (ws : List ℕ) where
         refused-find I h ws (find w (n .0) mode) 4 (step-refused I h ws aim s k (find w (n .0) mode) 4 refl (rw z)) v e ws refl
 
     module _ (g : r ≡ SizeCheck.Good) where
-      pub find-ready : (m : Size) → m .0 ≡ findSize (a .align .0) (n .0) → aim ≡ findAim r w m →
-          Kept I h ws (find-aim w n) s × (good-size (I .layout .arena h ws) w (n .0) ≡ true)
+      pub find-ready : (m : Size) → m .0 ≡ findSize (a .align .0) (n .0) → aim ≡ findAim r w m → Asked w n s
       find-ready m em f =
           let e : aim ≡ find-aim w n = f ∙ ap (λ (x : SizeCheck). findAim x w m) g ∙ ap (λ (x : ℕ). Aim.Find w (record { 0 = x })) (size-is n a ea m em) in
           (rw e at k, size-good (I .layout .arena h ws) a (ea ∙ I .arena-is h ws) w (n .0) r er g)
 
       -- of what a find asks for
-      pub find-asked : aim ≡ aimOf (I .arena-in h) (Aim.Find w n) → Kept I h ws (find-aim w n) s × (good-size (I .layout .arena h ws) w (n .0) ≡ true)
+      pub find-asked : aim ≡ aimOf (I .arena-in h) (Aim.Find w n) → Asked w n s
       find-asked f =
           let e : aim ≡ aimOf a (Aim.Find w n) = f ∙ ap (λ (x : Arena). aimOf x (Aim.Find w n)) (sym ea) in
           find-ready (record { 0 = findSize (a .align .0) (n .0) }) refl (e ∙ ap (λ (x : SizeCheck). findAim x w (record { 0 = findSize (a .align .0) (n .0) })) (sym er))
