@@ -28,7 +28,8 @@ use Rattle.block_land.specs.inner.Parts.{Looked, reachBase, reachLimit, 
 use Rattle.block_land.specs.declared.BlockLand.{BlockLand}
 use Rattle.block_land.specs.declared.Changed.{Changed}
 use Rattle.block_land.proofs.Land.{block-land}
-use Rattle.block_land.proofs.Requests.{readable, closes, whole, few-bytes, edit-order}
+use Rattle.block_land.proofs.LayoutLaws.{closed-as}
+use Rattle.block_land.proofs.Requests.{readable, whole, few-bytes, edit-order}
 
 -- EITHER EDIT
 module _ (h : BlockLand) (ws : List ℕ) (aim : Aim) (d : Entry) (k : Looked h ws aim d) (c : Call) (E : Edits (arenaOf h ws) (tableOf h ws) c) (g : E .good ≡ true) where
@@ -55,7 +56,7 @@ module _ (h : BlockLand) (ws : List ℕ) (aim : Aim) (d : Entry) (k : Looked h w
     edit-0 x m f t et z ez =
         let q = sym (e .0) ∙ f in
         let o = edited-done (E .holds-it) (length (E .new)) (E .bad) (leb (length (E .new)) (capacity ws)) x m q in
-        answers.edit-0 block-land h ws aim d k c E g (o .good) (o .fits) z (ez ∙ closes h (E .new) m t (o .count) et) x (o .range) vs (e .1 ∙ ap (λ (x : TableEdited). editedWords x (E .new) ws) q)
+        answers.edit-0 block-land h ws aim d k c E g (o .good) (o .fits) z (ez ∙ closed-as h (E .new) m t (o .count) et) x (o .range) vs (e .1 ∙ ap (λ (x : TableEdited). editedWords x (E .new) ws) q)
 
   -- the number of an edit is the answer
   number-is : editedNumber Edit ≡ changed (does c h ws) .answer

@@ -36,7 +36,8 @@ use Rattle.block_land.specs.Layout.{base, limit, align, arenaOf, tableOf
 use Rattle.block_land.specs.inner.Parts.{arenaIn, Readable, Looked, findAim}
 use Rattle.block_land.specs.declared.BlockLand.{BlockLand}
 use Rattle.block_land.proofs.Land.{block-land}
-use Rattle.block_land.proofs.Requests.{readable, closes, whole, sorted}
+use Rattle.block_land.proofs.LayoutLaws.{closed-as}
+use Rattle.block_land.proofs.Requests.{readable, whole, sorted}
 use Rattle.block_land.proofs.Sound.{Fine}
 
 module _ (h : BlockLand) (ws : List ℕ) (w : Which) (n : Size) (mode : Mode) (d : Entry) (k : Looked h ws (findAim h w n) d)
@@ -91,4 +92,4 @@ module _ (h : BlockLand) (ws : List ℕ) (w : Which) (n : Size) (mode : Mode) (d
     find-0 c vs e s es b eb z ez =
         let v = left-over in
         answers.find-0 block-land h ws w n mode d k g t et f a ea m em o y ey
-        z (ez ∙ closes h (delete-from (y .base .0) (y .limit .0) (tableOf h ws)) c b (e .0) (omega arith)) vs (e .1)
+        z (ez ∙ closed-as h (delete-from (y .base .0) (y .limit .0) (tableOf h ws)) c b (e .0) (omega arith)) vs (e .1)

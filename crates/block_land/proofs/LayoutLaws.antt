@@ -7,6 +7,7 @@ use native.Mathlib.Omega.{arith}
 use lib.ListN.{length, drop, length-drop}
 use lib.Seq.{getD-drop}
 use borrow.Author.Tests.{eq-eqb, le-leb, leb-true}
+use Rattle.units.specs.declared.Size.{Size}
 use Rattle.model.specs.Marks.{Range, total}
 use Rattle.model.specs.inner.Lists.{Apart, Aligned}
 use Rattle.model.specs.Layouts.{holding}
@@ -15,7 +16,7 @@ use Rattle.model.proofs.Outcomes.{read-whole}
 use Rattle.block_words.specs.Words.{capacity, pairs, all-zero, soundTable, fill}
 use Rattle.block_words.proofs.Filling.{length-fill, pairs-fill, clear-fill, fill-pairs}
 use Rattle.block_words.proofs.Canonical.{apart-canonical}
-use Rattle.block_land.specs.Layout.{base, limit, align, setUp, sound, tableOf, readOf, closed, SamePairs, layout}
+use Rattle.block_land.specs.Layout.{base, limit, align, setUp, sound, tableOf, readOf, closedWith, closed, SamePairs, layout}
 use Rattle.block_land.specs.declared.BlockLand.{BlockLand}
 use Rattle.block_land.proofs.Sound.{Fine, fine}
 
@@ -54,12 +55,13 @@ read-filled h ws rs g p a k =
       eq-eqb (total rs) (total rs) refl,
     )
 
+-- a handle closed with the counts of its ranges
+pub closed-as : (h : BlockLand) (rs : List Range) (n : ℕ) (s : Size) → n ≡ length rs → s .0 ≡ total rs → closedWith h n s ≡ closed h rs
+closed-as h rs n s c b = λ i. closedWith h (c i) (record { 0 = b i })
+
 -- the handle and the words of a sound table are those that close its ranges
 pub handle-back : (h : BlockLand) (ws : List ℕ) → Fine h ws → closed h (tableOf h ws) ≡ h
-handle-back h ws f =
-    let c = sym (f .count) in
-    let b = sym (f .bytes) in
-    λ i. record { base = h .base; limit = h .limit; align = h .align; ranges = c i; bytes = record { 0 = b i } }
+handle-back h ws f = sym (closed-as h (tableOf h ws) (h .ranges) (h .bytes) (f .count) (f .bytes))
 
 pub words-back : (h : BlockLand) (ws : List ℕ) → Fine h ws → fill (tableOf h ws) ws ≡ ws
 words-back h ws f = fill-pairs ws (h .ranges) (f .fits) (f .clean)

@@ -4,23 +4,19 @@ use mathlib.Core.Bool.{true}
 use mathlib.Core.List.{List}
 use mathlib.Core.Path.{_≡_}
 use native.Mathlib.Omega.{arith}
-use lib.ListN.{length}
 use Rattle.units.specs.Rules.{goodAlign}
 use Rattle.units.specs.declared.Addr.{Addr}
 use Rattle.units.specs.declared.Range.{Range}
-use Rattle.units.specs.declared.Size.{Size}
 use Rattle.units.specs.declared.aims.Aim.{Aim}
 use Rattle.units.specs.declared.rules.Arena.{Arena}
 use Rattle.model.specs.Calls.{good-range}
-use Rattle.model.specs.Marks.{total}
-use Rattle.model.specs.Marks as marks
 use Rattle.model.proofs.Requests.{range-rules}
 use Rattle.model.proofs.Totals.{total-small}
 use Rattle.block_words.specs.inner.Surveys.{FirstReach}
 use Rattle.block_words.specs.declared.Entry.{Entry}
 use Rattle.block_edits.specs.inner.Edits.{Sorted}
 use Rattle.block_edits.proofs.Entering.{reach-spot}
-use Rattle.block_land.specs.Layout.{base, limit, arenaOf, tableOf, closed, closedWith}
+use Rattle.block_land.specs.Layout.{base, limit, arenaOf, tableOf}
 use Rattle.block_land.specs.inner.Parts.{arenaIn, Readable, Looked}
 use Rattle.block_land.specs.declared.BlockLand.{BlockLand}
 use Rattle.block_land.proofs.Sound.{Fine, fine, placed}
@@ -40,10 +36,6 @@ pub looked-spot : (h : BlockLand) (ws : List ℕ) (x : Addr) (d : Entry) → Loo
 looked-spot h ws x d k =
     let f = fine h ws (k .good) (k .whole) in
     rw (k .kept) (reach-spot ws (h .ranges) (base h) (limit h) x (f .fits) (f .place .arena .above) (f .apart))
-
--- the next handle, from its two counts
-pub closes : (h : BlockLand) (rs : List marks.Range) (n : ℕ) (s : Size) → n ≡ length rs → s .0 ≡ total rs → closedWith h n s ≡ closed h rs
-closes h rs n s en es = λ i. record { base = h .base; limit = h .limit; align = h .align; ranges = en i; bytes = record { 0 = es i } }
 
 module _ (h : BlockLand) (ws : List ℕ) (k : Readable h ws) where
   pub whole : Fine h ws

@@ -22,8 +22,10 @@ use Rattle.block_words.proofs.Canonical.{apart-canonical}
 use Rattle.list_land.specs.Layout as list
 use Rattle.list_land.specs.inner.Parts as list-parts
 use Rattle.list_land.specs.declared.ListLand.{ListLand}
+use Rattle.list_land.proofs.LayoutLaws as list-laws
 use Rattle.block_land.specs.Layout as block
 use Rattle.block_land.specs.declared.BlockLand.{BlockLand}
+use Rattle.block_land.proofs.LayoutLaws as block-laws
 use Rattle.flush.specs.Flush.{refusal, checkOf, moves, done, flushed}
 use Rattle.transfers.specs.inner.Transfers.{Going, tableArena, flushOf, transferOf, transferWords}
 use Rattle.flush.specs.declared.FlushCheck.{FlushCheck}
@@ -136,13 +138,13 @@ module _ (h : ListLand) (ws : List ℕ) (k : BlockLand) (vs : List ℕ) (g : che
         let f = keeps h ws k vs c in
         let hb = list-fine h ws k vs c .bytes in
         let bb = block-fine h ws k vs c .bytes in
-        let p1 : m .at ≡ addr (head-of (fl .left)) = ap (λ (x : Moved). x .at) is in
+        let p1 : m .at .0 ≡ head-of (fl .left) = ap (λ (x : Moved). x .at .0) is in
         let p2 : h .ranges - m .moved ≡ length (fl .left) = let z = n .0 in omega arith in
         let p3 : lb .0 ≡ total (fl .left) = let z = n .1 in omega arith in
         let p4 : m .count ≡ length (fl .into) = ap (λ (x : Moved). x .count) is in
         let p5 : kb .0 ≡ total (fl .into) = let z = n .1 in let s = f .sum in omega arith in
         let p6 : m .moved ≡ fl .moved = ap (λ (x : Moved). x .moved) is in
         let p7 : m .stop ≡ fl .stop = ap (λ (x : Moved). x .stop) is in
-        let q1 : h' ≡ list.closed h (fl .left) = eh ∙ (λ i. record { base = h .base; limit = h .limit; align = h .align; head = p1 i; ranges = p2 i; bytes = record { 0 = p3 i } }) in
-        let q2 : k' ≡ block.closed k (fl .into) = ek ∙ (λ i. record { base = k .base; limit = k .limit; align = k .align; ranges = p4 i; bytes = record { 0 = p5 i } }) in
+        let q1 : h' ≡ list.closed h (fl .left) = eh ∙ list-laws.closed-as h (fl .left) (m .at) (h .ranges - m .moved) lb p1 p2 p3 in
+        let q2 : k' ≡ block.closed k (fl .into) = ek ∙ block-laws.closed-as k (fl .into) (m .count) kb p4 p5 in
         (rw d (λ i. record { list = q1 i; block = q2 i; answer = 0; moved = p6 i; stop = p7 i }), rw d words)

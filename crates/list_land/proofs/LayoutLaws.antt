@@ -7,6 +7,8 @@ use native.Mathlib.Omega.{arith}
 use lib.ListN.{length}
 use borrow.Author.Tests.{eq-eqb}
 use Rattle.units.specs.Words.{addr}
+use Rattle.units.specs.declared.Addr.{Addr}
+use Rattle.units.specs.declared.Size.{Size}
 use Rattle.model.specs.Marks.{Range, total}
 use Rattle.model.specs.inner.Lists.{Apart, Aligned}
 use Rattle.model.specs.Layouts.{fault, holding}
@@ -16,7 +18,7 @@ use Rattle.list_words.specs.Words.{soundWalk, walkFrom}
 use Rattle.list_words.specs.Laying.{head-of, lay}
 use Rattle.list_words.proofs.Laid.{Laid, length-lay, laid-lay, laid-host}
 use Rattle.list_words.proofs.Meeting.{walk-laid, aligned-8, few-words}
-use Rattle.list_land.specs.Layout.{base, limit, align, setUp, walkOf, sound, readOf, closed, layout}
+use Rattle.list_land.specs.Layout.{base, limit, align, setUp, walkOf, sound, readOf, closedWith, closed, layout}
 use Rattle.list_land.specs.declared.ListLand.{ListLand}
 use Rattle.list_land.proofs.Sound.{SetUpFacts, Fine, fine}
 
@@ -55,13 +57,18 @@ read-laid h ws rs p g d a s =
     let w = walk-laid (base h) (limit h) (align h) ws rs (length ws) (base h) m (f .above) a s a8 d in
     rw (g, w, eq-eqb (length rs) (length rs) refl, eq-eqb (total rs) (total rs) refl)
 
+-- a handle closed with the head and the counts of its ranges
+pub closed-as : (h : ListLand) (rs : List Range) (hd : Addr) (n : ℕ) (s : Size) → hd .0 ≡ head-of rs → n ≡ length rs → s .0 ≡ total rs →
+    closedWith h hd n s ≡ closed h rs
+closed-as h rs hd n s p c b = λ i. closedWith h (addr (p i)) (c i) (record { 0 = b i })
+
 -- the handle of a sound list is the one that closes its ranges
 pub handle-back : (h : ListLand) (ws : List ℕ) (rs : List Range) → Fine h ws → walkOf h ws .met ≡ rs → closed h rs ≡ h
 handle-back h ws rs f e =
     let p : head-of rs ≡ h .head .0 = rw e at (f .head) in
-    let c : length rs ≡ h .ranges = rw e at (sym (f .count)) in
-    let b : total rs ≡ h .bytes .0 = rw e at (sym (f .bytes)) in
-    λ i. record { base = h .base; limit = h .limit; align = h .align; head = addr (p i); ranges = c i; bytes = record { 0 = b i } }
+    let c : h .ranges ≡ length rs = rw e at (f .count) in
+    let b : h .bytes .0 ≡ total rs = rw e at (f .bytes) in
+    sym (closed-as h rs (h .head) (h .ranges) (h .bytes) (sym p) c b)
 
 -- other words of the same number are set up as well
 same-set-up : (h : ListLand) (ws ws' : List ℕ) → length ws' ≡ length ws → setUp h ws ≡ true → setUp h ws' ≡ true

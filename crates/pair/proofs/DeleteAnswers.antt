@@ -147,5 +147,5 @@ module _ (p : Pair) (ws vs : List ℕ) (y : units.Range) (s : Spot) (e : Entry) 
             let bytes = bf .bytes in
             does (u .asked) (holder b l qs) rs (tableLess (p .block) vs y) (rw (u .asked .good, u .unlisted, c, o .fits))
             x (o .range) (p .list) (sym (list-laws.handle-back (p .list) ws rs lf refl))
-            h (eh ∙ block-requests.closes (p .block) (tableLess (p .block) vs y) m t (o .count) (omega arith))
+            h (eh ∙ block-laws.closed-as (p .block) (tableLess (p .block) vs y) m t (o .count) (omega arith))
             ws vs' (sym (lay-laid (list.base (p .list)) rs ws (lf .laid))) (d .1 ∙ cut-words vs (p .block .ranges) y (TableEdited.Done x m) q)

@@ -26,7 +26,8 @@ use Rattle.list_land.proofs.Requests as list-requests
 use Rattle.block_words.specs.Words.{fill}
 use Rattle.block_land.specs.Layout as block
 use Rattle.block_land.specs.declared.BlockLand.{BlockLand}
-use Rattle.block_land.proofs.Requests.{closes, whole}
+use Rattle.block_land.proofs.LayoutLaws.{closed-as}
+use Rattle.block_land.proofs.Requests.{whole}
 use Rattle.pair.specs.inner.Editing.{listLess, listMore, tableLess, TakingListed, TakingTabled}
 
 -- what `join_at` of the list's edits requires and ensures
@@ -81,4 +82,4 @@ module _ (k : BlockLand) (vs : List ℕ) (i : ℕ) (y : units.Range) (w : Taking
   pub take-tabled-done : (m : ℕ) (vs' : List ℕ) → (m ≡ length (tableLess k vs y)) × (vs' ≡ fill (tableLess k vs y) vs) →
       (s : Size) → s .0 ≡ y .limit .0 - y .base .0 → (t : Size) → t .0 ≡ k .bytes .0 - s .0 →
       (z : BlockLand) → z ≡ block.closedWith k m t → (z ≡ block.closed k (tableLess k vs y)) × (vs' ≡ fill (tableLess k vs y) vs)
-  take-tabled-done m vs' e s es t et z ez = let u = take-tabled-bytes in (ez ∙ closes k (tableLess k vs y) m t (e .0) (omega arith), e .1)
+  take-tabled-done m vs' e s es t et z ez = let u = take-tabled-bytes in (ez ∙ closed-as k (tableLess k vs y) m t (e .0) (omega arith), e .1)
