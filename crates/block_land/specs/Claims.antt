@@ -13,8 +13,7 @@ use Rattle.block_land.specs.Calls.{openedOf, openedWords}
 abbrev pub BlockRight : Type 0
 BlockRight = LandRight layout setUp sound tableOf
 
--- From the handle of an accepted opening, node words as the opening left them and nothing marked. The answers have 3 where the
--- capacity would be exceeded.
+-- From the handle of an accepted opening, node words as the opening left them and nothing marked, with the capacity.
 abbrev pub BlockDemand3 : Type 0
 BlockDemand3 =
     (b l a : ℕ) (ws : List ℕ) → openedOf b l a ws .answer ≡ 0 →
