@@ -3,13 +3,15 @@ use crate::Chain;
 use crate::Met;
 use units::Addr;
 use units::Arena;
+use units::Range;
 use units::Size;
 use units::Soundness;
 ghost use mathlib.Core.Path.{_≡_};
+ghost use Prim.Native.Nat.{_<_};
 ghost use lib.ListN.{length};
 ghost use Rattle.units.specs.inner.Parts.{soundnessOf};
 ghost use Rattle.list_words.specs.Words.{soundWalk};
-ghost use Rattle.list_words.specs.inner.Surveys.{Ready, Along, Near, startAt, onward, countsOf, walkOf};
+ghost use Rattle.list_words.specs.inner.Surveys.{Ready, Along, Near, startAt, onward, passed, countsOf, walkOf};
 
 // Where a walk stands: the lowest base that may come, the base that comes, the ranges and bytes met.
 pub struct Cursor {
@@ -48,6 +50,17 @@ impl Cursor {
             count,
             bytes,
         }
+    }
+
+    // The range met last, by its base; none where that is 0. It ends at the address before the lowest base that may come.
+    pub(crate) fn passed(self, base: Addr) -> Range
+        requires { ⌜ 0 < self .low .0 ⌝ }
+        ensures { λ r. ⌜ r ≡ passed self base ⌝ }
+    {
+        if base.is_zero() {
+            return Range::none();
+        }
+        Range::new(base, self.low.minus(Size::new(1)))
     }
 
     // Whether the ranges and bytes met are those of the handle.

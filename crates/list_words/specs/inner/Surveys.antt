@@ -61,6 +61,10 @@ pub record Near (c : Cursor) (e : ℕ) : Type 0 where
   pub count : c .count < 18446744073709551615
   pub bytes : c .bytes .0 + (e - c .at .0) < 18446744073709551616
 
+-- The range that a cursor met last, by its base; none where that is 0.
+abbrev pub passed : Cursor → Addr → Range
+passed c b = cond (eqb (b .0) 0) none-range (rangeOf (b .0) (c .low .0 - 1))
+
 -- The ranges and bytes that a cursor met are those of the handle.
 abbrev pub countsOf : Cursor → Chain → Bool
 countsOf c h = eqb (h .ranges) (c .count) && eqb (h .bytes .0) (c .bytes .0)
