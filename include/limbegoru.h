@@ -10,6 +10,11 @@
  * space, since the words behind the ranges must be 0: each word that is lent and not used makes every call about a tenth
  * of a nanosecond longer.
  *
+ * To size an arena, read low water in its handle: the least number of free bytes after any accepted call, from the first
+ * that left the land non-empty on. Where that first call made the whole arena free, low water is what was to spare when most
+ * was in use; an arena that is made free piece by piece never has more than its first piece as low water. A flush counts as
+ * one call on each of its two lands. In a pair each land keeps its own, read after each call on the pair.
+ *
  * No call has a precondition on its numbers: every handle, every memory and every number is answered. A refused call
  * returns ranges {0, 0} and the handle that it was given (all zeros from an opening), and changes no word. What must hold:
  * the pointer is aligned to 8 bytes and points to n words (NULL with n 0 is fine), and two memories of one call do not
@@ -34,7 +39,7 @@
 
 /* The number of this interface. lg_version() returns that of the archive: where the two differ, build the host again. It is
  * raised by every change of a struct, a function or the meaning of an answer. */
-#define LG_VERSION UINT64_C(1)
+#define LG_VERSION UINT64_C(2)
 
 #define LG_LIMIT_MAX UINT64_C(1099511627776) /* the highest limit of an arena: 2^40 */
 #define LG_ALIGN_MIN UINT64_C(8)             /* the lowest alignment */
@@ -82,7 +87,7 @@ static inline const char *lg_answer_text(uint64_t answer) {
     case LG_ANSWER_SET_UP:
         return "the handle's fixed fields or the lent lengths break the arena rules, or two lands have two arenas";
     case LG_ANSWER_DAMAGED:
-        return "the list or table is not sound, or the lands of a pair overlap";
+        return "the list or table, or the handle's mark or low water, is not sound, or the lands of a pair overlap";
     case LG_ANSWER_IN_BOTH:
         return "delete on a pair: every byte is free, but neither land holds all of them";
     default:
@@ -102,12 +107,18 @@ typedef struct lg_range {
     uint64_t base, limit; /* limit is the first byte behind it */
 } lg_range;
 
+/* The handles, of which the host changes no field. Answered 6, as a list or table that is not sound, are a mark other than
+ * 0 and 1, low water above bytes, and a mark of 0 where low water or bytes is not 0. A mark of 1 with both of them 0 is
+ * sound: the land is empty again. */
 typedef struct lg_list_land {
     uint64_t base, limit, align, head, ranges, bytes;
+    uint64_t filled; /* the mark: 1 once an accepted call has left the land non-empty, 0 before */
+    uint64_t low;    /* low water: the least of bytes after any accepted call from that one on, 0 before */
 } lg_list_land;
 
 typedef struct lg_block_land {
     uint64_t base, limit, align, ranges, bytes;
+    uint64_t filled, low; /* the mark and low water, as above */
 } lg_block_land;
 
 typedef struct lg_list_opened {

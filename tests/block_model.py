@@ -1,6 +1,6 @@
 """The words of the block land, by document 01."""
 
-from set_model import Handle, total
+from set_model import Handle, noted, total
 
 FIRST_OP = 10
 MOST_NODES = 2097152
@@ -55,5 +55,5 @@ def met(h, words):
 
 
 def laid(h, words, ranges):
-    """The handle and the words that hold these isolated ranges."""
-    return Handle(h.base, h.limit, h.align, 0, len(ranges), total(ranges)), written(ranges, words)
+    """The next handle and the words that hold these isolated ranges."""
+    return noted(h, Handle(h.base, h.limit, h.align, 0, len(ranges), total(ranges))), written(ranges, words)

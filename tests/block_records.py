@@ -1,11 +1,11 @@
 """The records of the block land: 01's sessions and edges, openings, every insert and delete in small arenas, finds, walks, full
-tables, histories, bad set-ups, damaged tables and the order of the checks.
+tables, histories, bad set-ups, damaged tables, marks and low waters of all kinds, and the order of the checks.
 
 Node space of more than 2,097,152 words is not played: the program lends at most 64."""
 
 import block_model
 from block_model import broken, capacity, laid
-from records import ARENA, Player, every_set, fixed
+from records import ARENA, Player, SHORT, every_set, fixed, once_noted
 from set_model import (
     DELETE, ENTIRE, FINDS, FIRST, HIGH, Handle, INSERT, LARGEST, LAST, LOW, MAX, MODES, NONE, NO_RANGE, OPEN, TOP, WALK,
 )
@@ -57,14 +57,14 @@ def edges():
 
 
 def openings():
-    """Openings on node words of any value, and with counts of any value, which an opening does not read."""
+    """Openings on node words of any value, and with counts, mark and low water of any value, which an opening does not read."""
     for count in (0, 1, 2, 3, 4, 5, 6, 7, 8, 9, 16, 31, 63, 64):
         words = [dice.one_of([1, 8, 4096, 2**63, MAX]) for _ in range(count)]
-        r = record(OPEN, Handle(4096, 4160, 8, 0, dice.below(9), dice.below(99)), words)
+        r = record(OPEN, Handle(4096, 4160, 8, 0, dice.below(9), dice.below(99), dice.below(3), dice.below(99)), words)
         assert r.answer == 0 and r.handle == ARENA
         assert r.words == [0] * (count - count % 2) + words[count - count % 2:]
     for h in (fixed(8, TOP), fixed(TOP - 8, TOP), fixed(16, 16, 16), fixed(4096, 8192, 4096), fixed(32, TOP - 32, 32)):
-        r = record(OPEN, h._replace(ranges=MAX, bytes=MAX), [MAX] * 5)
+        r = record(OPEN, h._replace(ranges=MAX, bytes=MAX, filled=MAX, low=MAX), [MAX] * 5)
         assert r == (0, h, NO_RANGE, NO_RANGE, [0, 0, 0, 0, MAX])
 
 
@@ -178,9 +178,9 @@ def wide_arenas():
 def histories():
     """Calls one after the other from an opening on words of any value."""
     for h, count, steps in [
-        (fixed(8, 24), 2, 10), (fixed(8, 48), 3, 24), (fixed(8, 48), 4, 30), (fixed(640, 720), 5, 90), (fixed(4096, 4192), 6, 30),
-        (fixed(4096, 4192), 9, 30), (fixed(48, 128, 16), 4, 20), (fixed(32, 256, 32), 7, 20), (fixed(TOP - 48, TOP), 4, 20),
-        (fixed(TOP - 64, TOP, 16), 1, 8), (fixed(8192, 8192 + 4096 * 9, 4096), 6, 24), (fixed(16, 512, 16), 24, 30), (fixed(64, 512), 63, 20),
+        (fixed(8, 24), 2, 8), (fixed(8, 48), 3, 19), (fixed(8, 48), 4, 24), (fixed(640, 720), 5, 70), (fixed(4096, 4192), 6, 24),
+        (fixed(4096, 4192), 9, 24), (fixed(48, 128, 16), 4, 16), (fixed(32, 256, 32), 7, 16), (fixed(TOP - 48, TOP), 4, 16),
+        (fixed(TOP - 64, TOP, 16), 1, 7), (fixed(8192, 8192 + 4096 * 9, 4096), 6, 19), (fixed(16, 512, 16), 24, 24), (fixed(64, 512), 63, 15),
     ]:
         player.history(h, dice.junk(count), steps)
     # A table that fills and empties: every second unit goes in, then the gaps, then all of it goes out.
@@ -235,9 +235,9 @@ def some_tables():
 
 
 def on_broken(rules, h, words):
-    """A call on a table that breaks these rules and no other."""
+    """A call on a table that breaks these rules and no other, with a sound mark and low water."""
     assert broken(h, words) == rules
-    on_damage(h, words)
+    on_damage(once_noted(h), words)
 
 
 def damaged_counts():
@@ -323,7 +323,7 @@ def order_of_checks():
     """Two faults at once: 5 before 6 before 4 before 1 or 2 before 3."""
     full = table(ARENA, [(4096, 4112), (4128, 4144)])
     h, words = full
-    for bad in (h._replace(ranges=3), h._replace(bytes=8), h._replace(ranges=1, bytes=16)):
+    for bad in map(once_noted, (h._replace(ranges=3), h._replace(bytes=8), h._replace(ranges=1, bytes=16))):
         assert [record(op, bad._replace(align=4), words, 8, 8).answer for op in CALLS] == [5] * 6
         assert [record(op, bad, words, 4100, 4100).answer for op in CALLS] == [6] * 6
         assert record(INSERT, bad, words, 4096, 4104).answer == 6
@@ -354,4 +354,5 @@ def write():
     damaged_counts()
     damaged_tails()
     damaged_ranges()
+    player.low_waters(table(SHORT, [], 1), table(SHORT, [(16, 32), (48, 56)], 1, [6]))
     order_of_checks()

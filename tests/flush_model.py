@@ -1,10 +1,10 @@
-"""The flush from a list land to a block land, by document 01."""
+"""The flush from a list land to a block land, by document 01. By request K10 it counts as one accepted call on each land."""
 
 from collections import namedtuple
 
 import block_model
 import list_model
-from set_model import INSERT, call, fault
+from set_model import INSERT, call, fault, noted
 
 OP = 20
 
@@ -35,4 +35,5 @@ def flush(h, words, g, nodes):
             block, after = r.handle, r.words
     handle, kept = list_model.laid(h, words, left)
     assert list_model.met(handle, kept) == left
-    return Flushed(0, moved, stop, handle, block, after, kept)
+    # What the inserts noted of the block land on the way is not kept.
+    return Flushed(0, moved, stop, handle, noted(g, block), after, kept)

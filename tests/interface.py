@@ -23,6 +23,9 @@ NAMES = {
     "pair::Found": "lg_pair_found",
 }
 
+# Structs that have no name in the header: a field of one stands there as that struct's own fields, in its place.
+FLAT = {"units::LowWater"}
+
 # What the header calls the length of a slice.
 LENGTHS = {"words": "n", "nodes": "m"}
 
@@ -43,34 +46,41 @@ class Interface:
     def __init__(self):
         self.structs, self.functions = {}, {}
         self.kinds = set()
-        self.fields = {}
+        self.fields, self.scopes = {}, {}
         sources = [source(place) for place in sorted(glob.glob(f"{TOP}/crates/*/src/**/*.rt", recursive=True))]
-        for crate, text, _ in sources:
-            self.collect_structs(crate, text)
         for crate, text, scope in sources:
-            self.resolve_structs(crate, text, scope)
-            self.collect_functions(text, scope)
-        missing = sorted(set(NAMES) - set(self.fields))
+            self.collect_structs(crate, text, scope)
+        missing = sorted({*NAMES, *FLAT} - set(self.fields))
         if missing:
             raise Unreadable(f"the Rattle source has no struct {', '.join(missing)}")
+        for struct, name in NAMES.items():
+            self.structs[name] = self.written(struct)
+        for _, text, scope in sources:
+            self.collect_functions(text, scope)
 
-    def collect_structs(self, crate, text):
+    def collect_structs(self, crate, text, scope):
         found = STRUCT.findall(text)
         if len(found) != text.count("repr("):
             raise Unreadable(f"a struct of {crate} that is not understood")
         for name, number, fields in found:
             if number == "u64":
                 self.kinds.add(f"{crate}::{name}")
-            elif number or f"{crate}::{name}" not in NAMES:
+            elif number or f"{crate}::{name}" not in {*NAMES, *FLAT}:
                 raise Unreadable(f"no struct of the header stands for {crate}::{name}")
             else:
                 self.fields[f"{crate}::{name}"] = pairs(fields.replace("pub ", ""))
+                self.scopes[f"{crate}::{name}"] = scope
 
-    def resolve_structs(self, crate, text, scope):
-        for name, number, _ in STRUCT.findall(text):
-            if not number:
-                fields = self.fields[f"{crate}::{name}"]
-                self.structs[NAMES[f"{crate}::{name}"]] = [(field, self.plain(kind, scope)) for field, kind in fields]
+    def written(self, struct):
+        """The fields of a struct as the header has them."""
+        scope, rows = self.scopes[struct], []
+        for field, kind in self.fields[struct]:
+            whole = scope.get(kind, kind)
+            if whole in FLAT:
+                rows += [(inner, self.plain(its, self.scopes[whole])) for inner, its in self.fields[whole]]
+            else:
+                rows.append((field, self.plain(kind, scope)))
+        return rows
 
     def collect_functions(self, text, scope):
         found = FUNCTION.findall(text)
@@ -85,6 +95,8 @@ class Interface:
         whole = scope.get(kind, kind)
         if whole == "u64" or whole in self.kinds:
             return "number"
+        if whole in FLAT:
+            raise Unreadable(f"{whole} is written flat, which only a field of a struct of the header can be")
         if whole not in NAMES:
             raise Unreadable(f"the type {kind}")
         return NAMES[whole]
@@ -115,7 +127,7 @@ def source(place):
     crate = os.path.relpath(place, TOP).split(os.sep)[1]
     with open(place, encoding="utf-8") as file:
         text = re.sub(r"//[^\n]*", "", file.read())
-    scope = {name: f"{owner}::{name}" for owner, name in USE.findall(text)}
+    scope = {name: f"{crate if owner == 'crate' else owner}::{name}" for owner, name in USE.findall(text)}
     scope.update({name: f"{crate}::{name}" for name, *_ in STRUCT.findall(text)})
     return crate, text, scope
 

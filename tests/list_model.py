@@ -1,6 +1,6 @@
 """The words of the list land, by document 01."""
 
-from set_model import Handle, total
+from set_model import Handle, noted, total
 
 FIRST_OP = 0
 
@@ -47,7 +47,7 @@ def met(h, words):
 
 
 def laid(h, words, ranges):
-    """The handle and the words that hold these isolated ranges, over the words that were there."""
+    """The next handle and the words that hold these isolated ranges, over the words that were there."""
     after = list(words)
     for (b, e), (following, _) in zip(ranges, ranges[1:] + [(0, 0)]):
         number = (b - h.base) // 8
@@ -57,4 +57,4 @@ def laid(h, words, ranges):
             after[number] = following
             after[number + 1] = e
     head = ranges[0][0] if ranges else 0
-    return Handle(h.base, h.limit, h.align, head, len(ranges), total(ranges)), after
+    return noted(h, Handle(h.base, h.limit, h.align, head, len(ranges), total(ranges))), after

@@ -1,11 +1,11 @@
 """The records of the list land: 01's sessions and edges, every insert and delete in a small arena, histories, bad set-ups,
-damaged handles and damaged words."""
+damaged handles, marks and low waters of all kinds, and damaged words."""
 
 from list_model import laid, lent_good, met
 import list_model
-from records import Player, every_set
+from records import Player, every_set, once_noted
 from set_model import (
-    DELETE, ENTIRE, FINDS, FIRST, HIGH, Handle, INSERT, LARGEST, LAST, LOW, MAX, NONE, OPEN, TOP, WALK, fixed_good,
+    DELETE, ENTIRE, FINDS, FIRST, HIGH, Handle, INSERT, LARGEST, LAST, LOW, MAX, NONE, OPEN, TOP, WALK, fault, fixed_good,
 )
 
 player = Player(list_model, 20)
@@ -20,7 +20,7 @@ def arena(base, count, align=8, ranges=()):
 def sessions():
     """The starred sessions of 01 for the list land, with what 01 states of each."""
     r = record(OPEN, Handle(4096, 4160, 8, 0, 0, 0), [0] * 8)
-    assert r.answer == 0 and r.handle == (4096, 4160, 8, 0, 0, 0) and r.words == [0] * 8
+    assert r.answer == 0 and r.handle == (4096, 4160, 8, 0, 0, 0, 0, 0) and r.words == [0] * 8
     none = (0, 0)
     stated = [
         (INSERT, 4096, 4112, 0, (4096, 4112), none, {0: 0, 1: 4112}),
@@ -39,7 +39,7 @@ def sessions():
         assert all(r.words[k] == w for k, w in words.items())
         if not words:
             assert (r.handle, r.words) == (before.handle, before.words)
-    assert r.words == [1, 4128, 0, 4128, 0, 0, 0, 0] and r.handle == (4096, 4160, 8, 4096, 1, 8)
+    assert r.words == [1, 4128, 0, 4128, 0, 0, 0, 0] and r.handle == (4096, 4160, 8, 4096, 1, 8, 1, 8)
 
     # 01's input of the program that plays requests.
     r = record(OPEN, Handle(4096, 4160, 8, 0, 0, 0), [0] * 8)
@@ -66,8 +66,8 @@ def edges():
         r = record(INSERT, r.handle, r.words, 512, 512 + align)
         r = record(LAST, r.handle, r.words, align, HIGH)
         assert r.answer == 0
-    # Opening looks at no head, no count and no word.
-    assert record(OPEN, Handle(4096, 4112, 8, 4097, 9, MAX), [MAX, 3]).handle == (4096, 4112, 8, 0, 0, 0)
+    # Opening looks at no head, no count, no mark, no low water and no word.
+    assert record(OPEN, Handle(4096, 4112, 8, 4097, 9, MAX, 7, MAX), [MAX, 3]).handle == (4096, 4112, 8, 0, 0, 0, 0, 0)
 
 
 def every_change():
@@ -104,8 +104,8 @@ def every_find():
 def histories():
     """Calls one after the other from an opening on words of any value."""
     for base, count, align, steps in [
-        (8, 2, 8, 8), (8, 5, 8, 20), (4096, 12, 8, 18), (TOP - 48, 6, 8, 12), (48, 10, 16, 24), (TOP - 64, 8, 16, 8),
-        (32, 12, 32, 16), (96, 8, 32, 10), (8, 11, 8, 30), (640, 9, 8, 20), (TOP - 64, 8, 32, 8), (16, 12, 16, 20),
+        (8, 2, 8, 7), (8, 5, 8, 16), (4096, 12, 8, 15), (TOP - 48, 6, 8, 10), (48, 10, 16, 19), (TOP - 64, 8, 16, 7),
+        (32, 12, 32, 13), (96, 8, 32, 8), (8, 11, 8, 24), (640, 9, 8, 16), (TOP - 64, 8, 32, 7), (16, 12, 16, 16),
     ]:
         words = dice.junk(count)
         if base == 8:
@@ -157,17 +157,17 @@ def damaged_handles():
         for ranges in (h.ranges + 1, h.ranges - 1, 0, MAX, MAX - 1):
             on_damage(h._replace(ranges=ranges), words)
         for size in (h.bytes + 1, h.bytes - 1, h.bytes + h.align, h.bytes - h.align, MAX, 2**63):
-            on_damage(h._replace(bytes=size), words)
-        on_damage(h._replace(ranges=0, bytes=0), words)
+            on_damage(once_noted(h._replace(bytes=size)), words)
+        on_damage(once_noted(h._replace(ranges=0, bytes=0)), words)
         on_damage(h._replace(head=0, ranges=0), words)
-        on_damage(h._replace(head=0, bytes=0), words)
+        on_damage(once_noted(h._replace(head=0, bytes=0)), words)
         # These are sound: no ranges at all, or all but the first.
-        on_damage(h._replace(head=0, ranges=0, bytes=0), words, None)
+        on_damage(once_noted(h._replace(head=0, ranges=0, bytes=0)), words, None)
         held = met(h, words)
         if len(held) > 1:
             b, e = held[0]
-            fewer = h._replace(head=held[1][0], ranges=h.ranges - 1, bytes=h.bytes - (e - b))
-            assert met(fewer, words) == held[1:]
+            fewer = once_noted(h._replace(head=held[1][0], ranges=h.ranges - 1, bytes=h.bytes - (e - b)))
+            assert fault(list_model, fewer, words) == 0
             on_damage(fewer, words, None)
             on_damage(h._replace(head=held[1][0]), words)
 
@@ -239,13 +239,14 @@ def one_rule_broken():
         (Handle(4096, 4128, 8, 4096, 1, 8), [4121, 0, 0, 1]),
     ]:
         assert fixed_good(h) and lent_good(h, words)
+        h = once_noted(h)
         on_damage(h, words)
         # 6 wins over 4.
         assert record(INSERT, h, words, 4096, 4096).answer == 6
         assert record(FIRST, h, words, 12, LOW).answer == 6
     # And lists that no call here made, but sound: a grain in the last word, a block to the arena's end.
-    assert record(WALK, Handle(4096, 4128, 8, 4120, 1, 8), [MAX, MAX, MAX, 1], 0).range == (4120, 4128)
-    assert record(DELETE, Handle(TOP - 32, TOP, 16, TOP - 16, 1, 16), [MAX, MAX, 0, TOP], TOP - 16, TOP).answer == 0
+    assert record(WALK, Handle(4096, 4128, 8, 4120, 1, 8, 1, 8), [MAX, MAX, MAX, 1], 0).range == (4120, 4128)
+    assert record(DELETE, Handle(TOP - 32, TOP, 16, TOP - 16, 1, 16, 1, 0), [MAX, MAX, 0, TOP], TOP - 16, TOP).answer == 0
 
 
 def write():
@@ -257,5 +258,6 @@ def write():
     histories()
     bad_set_ups()
     damaged_handles()
+    player.low_waters(arena(16, 8), arena(16, 8, 8, [(16, 32), (48, 56)]))
     damaged_words()
     one_rule_broken()

@@ -1,11 +1,12 @@
-"""A pair of a list land and a block land on one arena, by request K4 of document 02."""
+"""A pair of a list land and a block land on one arena, by request K4 of document 02, each land with its own low water, by
+request K10."""
 
 from collections import namedtuple
 
 import block_model
 import list_model
 from flush_model import flush, refusal
-from set_model import DELETE, FIRST, INSERT, LARGEST, NONE, NO_RANGE, call, joined, total
+from set_model import DELETE, FIRST, INSERT, LARGEST, NONE, NO_RANGE, call, joined, noted, total
 
 # The number of an insert in a record, less INSERT.
 FIRST_OP = 30
@@ -102,8 +103,12 @@ def pair_call(op, p, a, b):
         number = 6
     if number:
         return Result(number, p, NO_RANGE, NO_RANGE)
-    if op == INSERT:
-        return insert(p, a, b)
-    if op == DELETE:
-        return delete(p, a, b)
-    return find(p, op, a, b)
+    if op in (INSERT, DELETE):
+        r = insert(p, a, b) if op == INSERT else delete(p, a, b)
+    else:
+        r = find(p, op, a, b)
+    if r.answer:
+        return r
+    # Each land is read after the whole call; what the calls inside it noted is not kept.
+    lands = r.lands._replace(list=noted(p.list, r.lands.list), block=noted(p.block, r.lands.block))
+    return r._replace(lands=lands)

@@ -1,5 +1,5 @@
-"""The records of the pair: the worked examples of request K4, every pair of small sets, refusals in their order, lands that
-overlap or touch, and histories.
+"""The records of the pair: the worked examples of the requests K4 and K10, every pair of small sets, refusals in their order,
+lands that overlap or touch, and histories.
 
 A record is one line: 31 to 35 (insert, delete, find first, last, largest), the numbers of a flush (flush_records.py), A B C.
 Its line of output is the answer, both handles, the range, the old range, the node words and the arena words afterwards.
@@ -11,7 +11,7 @@ import block_model
 import list_model
 from flush_records import lands
 from pair_model import FIRST_OP, Lands, overlap, pair_call
-from records import ARENA, Dice, LENT, add, every_set, fixed
+from records import ARENA, Dice, LENT, SHORT, add, every_set, fixed, low_water, low_water_in_turn, once_noted
 from set_model import DELETE, ENTIRE, FINDS, FIRST, HIGH, INSERT, LARGEST, LAST, LOW, MAX, NONE, NO_RANGE, joined
 
 dice = Dice(33)
@@ -42,6 +42,7 @@ def record(op, p, a=0, b=0):
         assert (after, r.range, r.old) == (p, NO_RANGE, NO_RANGE)
     else:
         assert not overlap(after)
+        assert op not in FINDS or b != NONE or after == p
         ways_seen[way(op, p, r)] += 1
     numbers = [*p.list, len(p.words), *p.words, 0, *p.block, len(p.nodes), *p.nodes, a, b, 0]
     add(FIRST_OP + op, numbers, [r.answer, *after.list, *after.block, *r.range, *r.old, *after.nodes, *after.words])
@@ -79,6 +80,35 @@ def examples():
     example(grain, [(4112, 4120)], LARGEST, 8, ENTIRE, 0, (4096, 4104), [], [(4112, 4120)])
 
 
+def low_waters():
+    """The example of request K10 from openings at capacity 1, further calls on it, and a block land without a mark."""
+    p = pair(ARENA, [], [], 1, fill=9)
+    assert (p.list, p.block) == (ARENA, ARENA)
+    # The call, and the bytes, mark and low water that it leaves the list and the block land.
+    for op, a, b, of_list, of_block in [
+        (INSERT, 4096, 4104, (0, 0, 0), (8, 1, 8)),
+        (INSERT, 4112, 4128, (16, 1, 16), (8, 1, 8)),
+        (DELETE, 4096, 4104, (16, 1, 16), (0, 1, 0)),
+        # The inner flush empties the list for a moment, then 16 bytes go into it.
+        (INSERT, 4136, 4152, (16, 1, 16), (16, 1, 0)),
+        (INSERT, 4096, 4104, (24, 1, 16), (16, 1, 0)),
+        (LAST, 8, NONE, (24, 1, 16), (16, 1, 0)),
+        (DELETE, 4136, 4152, (8, 1, 8), (16, 1, 0)),
+        (FIRST, 16, HIGH, (8, 1, 8), (0, 1, 0)),
+        # The inner flush empties the list, and the range goes into the block land.
+        (INSERT, 4104, 4120, (0, 1, 0), (24, 1, 0)),
+    ]:
+        r = record(op, p, a, b)
+        p = r.lands
+        assert (r.answer, p.list[5:], p.block[5:]) == (0, of_list, of_block)
+    # The block land gets its first bytes by the inner flush: low water is what the whole call leaves.
+    p = record(INSERT, pair(ARENA, [(4096, 4104), (4120, 4128)], [], 3), 4144, 4152).lands
+    assert (p.list[5:], p.block[5:]) == ((0, 1, 0), (24, 1, 24))
+    # A fragment that is handed over is the first of the list.
+    p = record(DELETE, pair(ARENA, [], [(4096, 4120)], 1), 4104, 4112).lands
+    assert (p.list[5:], p.block[5:]) == ((8, 1, 8), (8, 1, 8))
+
+
 def apart_sets(base, count):
     """Every two sets of `count` units with no unit in both."""
     for listed in every_set(base, count):
@@ -99,7 +129,9 @@ def every_pair():
     for listed, tabled in apart_sets(8, 3):
         if len(tabled) <= 1:
             for _ in range(8):
-                record(calls[turn % 20][0], pair(fixed(8, 32), listed, tabled, 1), *calls[turn % 20][1:])
+                p = pair(fixed(8, 32), listed, tabled, 1)
+                p = p._replace(list=low_water_in_turn(p.list, turn), block=low_water_in_turn(p.block, turn // 7))
+                record(calls[turn % 20][0], p, *calls[turn % 20][1:])
                 turn += 7
     assert turn > 7 * 20
 
@@ -120,12 +152,12 @@ def splits():
 
 def requests():
     """Ranges and sizes that break the rules, before 1 and 2."""
-    for p in (pair(ARENA, [], [], 1), pair(ARENA, [(4112, 4120)], [(4096, 4112)], 1)):
+    for p in (pair(SHORT, [], [], 1), pair(SHORT, [(32, 40)], [(16, 32)], 1)):
         for op in FINDS:
             for size in (4, 12, MAX):
                 assert record(op, p, size, dice.below(4)).answer == 4
         for op in (INSERT, DELETE):
-            for a, b in ((4096, 4096), (4096, 4168), (4112, 4104), (4100, 4112), (0, 8), (MAX - 7, 8)):
+            for a, b in ((16, 16), (16, 88), (32, 24), (20, 32), (0, 8), (MAX - 7, 8)):
                 assert record(op, p, a, b).answer == 4
         for op in FINDS:
             assert record(op, p, 0, NONE).answer == (4 if op != LARGEST else 0 if p.list.ranges else 2)
@@ -133,26 +165,29 @@ def requests():
 
 def refusals():
     """5, 6, 6 for lands that overlap, 4, in this order; lands that touch are no fault."""
-    good = pair(ARENA, [(4096, 4104), (4120, 4136)], [(4104, 4112), (4144, 4152)], 3, [6])
+    good = pair(SHORT, [(16, 24), (40, 56)], [(24, 32), (64, 72)], 3, [6])
     wrong = [
         (5, good._replace(list=good.list._replace(align=4))), (5, good._replace(words=good.words[:-1])),
-        (5, good._replace(block=good.block._replace(limit=4088))), (5, good._replace(block=good.block._replace(limit=4168))),
-        (5, good._replace(block=good.block._replace(align=16))), (5, good._replace(block=good.block._replace(base=4088))),
-        (6, good._replace(list=good.list._replace(ranges=1))), (6, good._replace(list=good.list._replace(head=4100))),
-        (6, good._replace(block=good.block._replace(bytes=15))), (6, good._replace(nodes=[*good.nodes[:5], 1, 6])),
-        (6, pair(ARENA, [(4104, 4128)], [(4112, 4120)], 1)), (6, pair(ARENA, [(4112, 4120)], [(4104, 4128)], 1)),
-        (6, pair(ARENA, [(4096, 4104), (4144, 4160)], [(4104, 4112), (4120, 4152)], 2)),
-        (4, good), (4, pair(ARENA, [(4112, 4120)], [(4104, 4112), (4120, 4160)], 2)),
+        (5, good._replace(block=good.block._replace(limit=8))), (5, good._replace(block=good.block._replace(limit=88))),
+        (5, good._replace(block=good.block._replace(align=16))), (5, good._replace(block=good.block._replace(base=8))),
+        (6, good._replace(list=good.list._replace(ranges=1))), (6, good._replace(list=good.list._replace(head=20))),
+        (6, good._replace(block=once_noted(good.block._replace(bytes=15)))), (6, good._replace(nodes=[*good.nodes[:5], 1, 6])),
+        (6, good._replace(list=good.list._replace(filled=2))), (6, good._replace(list=good.list._replace(low=25))),
+        (6, good._replace(list=good.list._replace(filled=0, low=0))), (6, good._replace(block=good.block._replace(filled=MAX))),
+        (6, good._replace(block=good.block._replace(low=17))), (6, good._replace(block=good.block._replace(filled=0, low=0))),
+        (6, pair(SHORT, [(24, 48)], [(32, 40)], 1)), (6, pair(SHORT, [(32, 40)], [(24, 48)], 1)),
+        (6, pair(SHORT, [(16, 24), (64, 80)], [(24, 32), (40, 72)], 2)),
+        (4, good), (4, pair(SHORT, [(32, 40)], [(24, 32), (40, 80)], 2)),
     ]
     for number, p in wrong:
         for op in (INSERT, DELETE):
-            assert record(op, p, 4096, 4100).answer == number
+            assert record(op, p, 16, 20).answer == number
         for op in FINDS:
             assert record(op, p, 12, LOW).answer == number
     # 5 before 6, whichever land has them.
     torn = good._replace(list=good.list._replace(ranges=1))
     assert record(INSERT, torn._replace(block=good.block._replace(align=4))).answer == 5
-    assert record(DELETE, torn._replace(block=good.block._replace(limit=4168))).answer == 5
+    assert record(DELETE, torn._replace(block=good.block._replace(limit=88))).answer == 5
 
 
 def spots(h):
@@ -175,7 +210,7 @@ def written(p):
     granted = [k for k in range(len(p.words)) if p.list.base + 8 * k not in free]
     words = list(p.words)
     if granted:
-        words[dice.one_of(granted)] = dice.one_of([0, 1, MAX])
+        words[dice.one_of(granted)] = dice.one_of([0, 1, 2, 7, 8, 9, 97, MAX])
     return p._replace(words=words)
 
 
@@ -183,14 +218,20 @@ def histories():
     """Calls one after the other on small arenas, at capacities 0 to 4."""
     for h, room in ((fixed(8, 80), 0), (fixed(8, 80), 1), (fixed(4096, 4176), 2), (fixed(32, 320, 32), 3), (fixed(8, 88), 4)):
         p = pair(h, [], [], room)
-        for _ in range(28):
+        totals = []
+        for _ in range(22):
             op, a, b = request(h)
-            p = written(record(op, p, a, b).lands)
+            r = record(op, p, a, b)
+            totals += [] if r.answer else [(r.lands.list.bytes, r.lands.block.bytes)]
+            assert r.lands.list[6:] == low_water([listed for listed, _ in totals])
+            assert r.lands.block[6:] == low_water([tabled for _, tabled in totals])
+            p = written(r.lands)
 
 
 def write():
     """Adds the records, always the same in the same order."""
     examples()
+    low_waters()
     every_pair()
     splits()
     requests()

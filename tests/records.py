@@ -1,12 +1,16 @@
 """The records that have been written, and what the records of both lands share.
 
-A record is one line: OP base limit align head ranges bytes NWORDS w0 .. A B C (see crates/land_cases/src/main.rt).
-Its line of output is the answer, the handle returned, the range, the old range, and the words afterwards.
+A record is one line: OP base limit align head ranges bytes filled low NWORDS w0 .. A B C (see
+crates/land_cases/src/main.rt). Its line of output is the answer, the handle returned, the range, the old range, and the
+words afterwards.
 """
 
 from collections import Counter
+from itertools import dropwhile
 
-from set_model import DELETE, ENTIRE, FINDS, Handle, INSERT, LARGEST, MAX, NONE, OPEN, WALK, call, joined
+from set_model import (
+    DELETE, ENTIRE, FINDS, FIRST, HIGH, Handle, INSERT, LARGEST, LAST, LOW, MAX, NONE, OPEN, WALK, call, joined, noted,
+)
 
 # The most words that the program lends of one land.
 LENT = 64
@@ -27,8 +31,32 @@ def fixed(base, limit, align=8):
     return Handle(base, limit, align, 0, 0, 0)
 
 
-# The arena of 01's sessions.
+# The arena of 01's sessions, and one of its length whose addresses are short.
 ARENA = fixed(4096, 4160)
+SHORT = fixed(16, 80)
+
+
+def once_noted(h):
+    """The handle with the mark and low water of a land whose one accepted call left its bytes."""
+    return noted(fixed(0, 0), h)
+
+
+def low_water(totals):
+    """The mark and the low water of a history, from the free bytes after each of its accepted calls."""
+    counted = list(dropwhile(lambda total: total == 0, totals))
+    return (1, min(counted)) if counted else (0, 0)
+
+
+def low_water_in_turn(h, turn):
+    """The handle with one of the marks and low waters that are sound beside its bytes."""
+    if h.bytes == 0:
+        return h._replace(filled=turn % 2, low=0)
+    return h._replace(filled=1, low=(h.bytes, 0, h.bytes // 2)[turn % 3])
+
+
+def bad_low_waters(size):
+    """Marks and low waters that are not sound beside so many free bytes, which are not 0: a kind each, then others."""
+    return [(2, size), (1, size + 1), (0, 0), (0, size), (2**32 + 1, 0), (MAX, size), (1, MAX), (0, 1)]
 
 
 def every_set(base, count):
@@ -111,9 +139,12 @@ class Player:
     def history(self, h, words, steps):
         """An opening, then calls one after the other."""
         r = self.record(OPEN, h, words)
+        totals = []
         for _ in range(steps):
             op, a, b = self.request(r.handle, r.words)
             r = self.record(op, r.handle, r.words, a, b)
+            totals += [] if r.answer else [r.handle.bytes]
+            assert r.handle[6:] == low_water(totals)
 
     def on_damage(self, h, words, expect=6):
         """A call on words that may not be sound: with a good request, or one that breaks the rules."""
@@ -151,6 +182,34 @@ class Player:
                         assert answer == 2
             for a in (0, 4095, 4096, 4097, 4104, 4105, 4128, 4129, 4159, 4160, MAX):
                 assert self.record(WALK, h, words, a).answer in (0, 2)
+
+    def low_waters(self, empty, held):
+        """Marks and low waters on lands of arena [16, 80): one with no range, one with 16 bytes at 16 and 8 at 48."""
+        h, words = held
+        # For each call a good request, one that breaks the rules, and the bytes that the good one leaves.
+        calls = [
+            (INSERT, (64, 72), (16, 20), 32), (DELETE, (16, 24), (16, 16), 16), (FIRST, (8, LOW), (12, LOW), 16),
+            (LAST, (8, HIGH), (0, LOW), 16), (LARGEST, (0, ENTIRE), (4, LOW), 8), (WALK, (16, 0), (MAX, 0), 24),
+        ]
+        kinds, others = bad_low_waters(24)[:4], bad_low_waters(24)[4:]
+        for op, good, bad, left in calls:
+            for filled, low in [*kinds, others[op % 4]]:
+                assert self.record(op, h._replace(filled=filled, low=low), words, *good).answer == 6
+            assert self.record(op, h._replace(low=25), words, *bad).answer == 6
+            assert self.record(op, h._replace(low=25, align=4), words, *good).answer == 5
+            for low in (0, 12, 24):
+                r = self.record(op, h._replace(low=low), words, *good)
+                assert (r.answer, r.handle[5:]) == (0, (left, 1, min(low, left)))
+            assert self.record(op, h._replace(low=7), words, *bad).handle == h._replace(low=7)
+        for find in FINDS:
+            assert self.record(find, h._replace(low=7), words, 8, NONE).handle == h._replace(low=7)
+        h, words = empty
+        for filled in (0, 1):
+            r = self.record(INSERT, h._replace(filled=filled), words, 16, 24)
+            assert r.handle[5:] == (8, 1, 0 if filled else 8)
+            assert self.record(WALK, h._replace(filled=filled), words, 0).answer == 2
+        for filled, low in ((1, 1), (0, 8), (2, 0), (MAX, 8)):
+            assert self.record(INSERT, h._replace(filled=filled, low=low), words, 16, 24).answer == 6
 
     def alignments(self, words):
         """Each alignment on an arena of length 0."""

@@ -1,4 +1,5 @@
-"""What document 01 says of both lands: the arena rules, the order of the checks, and the calls on a set of free bytes.
+"""What document 01 says of both lands: the arena rules, the order of the checks, and the calls on a set of free bytes; and
+request K10 of document 02, the mark and the low water of a handle.
 
 What is free is a Python set of bytes, and the isolated ranges are the runs of that set. Where every end and size of a call
 is a multiple of a larger step, the set holds one byte of each step: the step is then free as a whole or not at all.
@@ -17,8 +18,8 @@ TOP = 2**40
 MAX = 2**64 - 1
 NO_RANGE = (0, 0)
 
-# A handle of a block land has head 0.
-Handle = namedtuple("Handle", "base limit align head ranges bytes")
+# A handle of a block land has head 0. `filled` is the mark, `low` is low water.
+Handle = namedtuple("Handle", "base limit align head ranges bytes filled low", defaults=(0, 0))
 Result = namedtuple("Result", "answer handle range old words")
 Outcome = namedtuple("Outcome", "answer ranges found old")
 
@@ -28,6 +29,21 @@ def fixed_good(h):
     if h.align not in (8, 16, 32, 64, 128, 256, 512, 1024, 2048, 4096):
         return False
     return h.base % h.align == 0 and h.limit % h.align == 0 and 0 < h.base <= h.limit <= TOP
+
+
+def low_water_sound(h):
+    """The mark is 0 or 1, low water is at most the free bytes, and where the mark is unset both are 0."""
+    if h.filled == 0:
+        return h.low == 0 and h.bytes == 0
+    return h.filled == 1 and h.low <= h.bytes
+
+
+def noted(before, after):
+    """The handle `after` an accepted call on the land of the handle `before`, with its mark and low water."""
+    if before.filled == 0 and after.bytes == 0:
+        return after._replace(filled=0, low=0)
+    totals = [after.bytes] if before.filled == 0 else [before.low, after.bytes]
+    return after._replace(filled=1, low=min(totals))
 
 
 def total(ranges):
@@ -139,7 +155,7 @@ def fault(land, h, words):
     """5, 6 or 0: the answer of a call that has got no further than its set-up and the words."""
     if not fixed_good(h) or not land.lent_good(h, words):
         return 5
-    return 6 if land.met(h, words) is None else 0
+    return 0 if land.met(h, words) is not None and low_water_sound(h) else 6
 
 
 def call(land, op, h, words, a, b):

@@ -56,6 +56,8 @@ static inline int rest_ok(list_walk *w, const lg_list_land *land) {
 lg_list_changed c_list_insert(lg_list_land land, uint64_t *words, size_t n, lg_range r) {
     if (!list_set_up_ok(&land, n))
         return (lg_list_changed){land, LG_ANSWER_SET_UP, {0, 0}};
+    if (!list_handle_ok(&land))
+        return (lg_list_changed){land, LG_ANSWER_DAMAGED, {0, 0}};
     list_walk w = walk_from_head(&land, words);
     node below = {0, 0, 0}, above = {0, 0, 0};
     while (w.at != 0 && w.at < r.base)
@@ -70,12 +72,15 @@ lg_list_changed c_list_insert(lg_list_land land, uint64_t *words, size_t n, lg_r
     if (list_overlaps(below, above, r))
         return (lg_list_changed){land, LG_ANSWER_OVERLAP, {0, 0}};
     lg_range all = list_put(&land, words, below, above, r);
+    note_list(&land);
     return (lg_list_changed){land, LG_ANSWER_OK, all};
 }
 
 lg_list_changed c_list_delete(lg_list_land land, uint64_t *words, size_t n, lg_range r) {
     if (!list_set_up_ok(&land, n))
         return (lg_list_changed){land, LG_ANSWER_SET_UP, {0, 0}};
+    if (!list_handle_ok(&land))
+        return (lg_list_changed){land, LG_ANSWER_DAMAGED, {0, 0}};
     list_walk w = walk_from_head(&land, words);
     node met = {0, 0, 0};
     uint64_t below = 0;
@@ -91,12 +96,15 @@ lg_list_changed c_list_delete(lg_list_land land, uint64_t *words, size_t n, lg_r
     if (r.limit > met.limit)
         return (lg_list_changed){land, LG_ANSWER_OVERLAP, {0, 0}};
     list_take(&land, words, below, met, r);
+    note_list(&land);
     return (lg_list_changed){land, LG_ANSWER_OK, {met.base, met.limit}};
 }
 
 lg_list_changed c_list_walk(lg_list_land land, const uint64_t *words, size_t n, uint64_t from) {
     if (!list_set_up_ok(&land, n))
         return (lg_list_changed){land, LG_ANSWER_SET_UP, {0, 0}};
+    if (!list_handle_ok(&land))
+        return (lg_list_changed){land, LG_ANSWER_DAMAGED, {0, 0}};
     list_walk w = walk_from_head(&land, words);
     node met = {0, 0, 0};
     while (w.at != 0 && w.at < from)
@@ -129,6 +137,8 @@ lg_list_changed c_list_walk_at(lg_list_land *land, const uint64_t *words, size_t
 lg_list_found c_list_find_first(lg_list_land land, uint64_t *words, size_t n, uint64_t size, uint64_t mode) {
     if (!list_set_up_ok(&land, n))
         return (lg_list_found){land, LG_ANSWER_SET_UP, {0, 0}, {0, 0}};
+    if (!list_handle_ok(&land))
+        return (lg_list_found){land, LG_ANSWER_DAMAGED, {0, 0}, {0, 0}};
     list_walk w = walk_from_head(&land, words);
     node met = {0, 0, 0};
     uint64_t below = 0;
@@ -150,6 +160,8 @@ lg_list_found c_list_find_first(lg_list_land land, uint64_t *words, size_t n, ui
 INLINE lg_list_found list_keep(lg_list_land land, uint64_t *words, size_t n, uint64_t size, uint64_t mode, int sort) {
     if (!list_set_up_ok(&land, n))
         return (lg_list_found){land, LG_ANSWER_SET_UP, {0, 0}, {0, 0}};
+    if (!list_handle_ok(&land))
+        return (lg_list_found){land, LG_ANSWER_DAMAGED, {0, 0}, {0, 0}};
     list_walk w = walk_from_head(&land, words);
     node met = {0, 0, 0}, kept = {0, 0, 0};
     uint64_t below = 0;
@@ -225,7 +237,7 @@ static inline int scan_below(table_scan *s, uint64_t address) {
 lg_block_changed c_block_insert(lg_block_land land, uint64_t *nodes, size_t m, lg_range r) {
     if (!block_set_up_ok(&land, m))
         return (lg_block_changed){land, LG_ANSWER_SET_UP, {0, 0}};
-    if (land.ranges > m / 2)
+    if (!block_handle_ok(&land, m))
         return (lg_block_changed){land, LG_ANSWER_DAMAGED, {0, 0}};
     table_scan s = scan_from_first(&land, nodes);
     while (s.at != s.end && s.at[0] < r.base)
@@ -241,13 +253,14 @@ lg_block_changed c_block_insert(lg_block_land land, uint64_t *nodes, size_t m, l
     lg_range all;
     if (!block_put(&land, nodes, m, i, r, &all))
         return (lg_block_changed){land, LG_ANSWER_FULL, {0, 0}};
+    note_block(&land);
     return (lg_block_changed){land, LG_ANSWER_OK, all};
 }
 
 lg_block_changed c_block_delete(lg_block_land land, uint64_t *nodes, size_t m, lg_range r) {
     if (!block_set_up_ok(&land, m))
         return (lg_block_changed){land, LG_ANSWER_SET_UP, {0, 0}};
-    if (land.ranges > m / 2)
+    if (!block_handle_ok(&land, m))
         return (lg_block_changed){land, LG_ANSWER_DAMAGED, {0, 0}};
     table_scan s = scan_from_first(&land, nodes);
     while (s.at != s.end && s.at[0] <= r.base)
@@ -264,13 +277,14 @@ lg_block_changed c_block_delete(lg_block_land land, uint64_t *nodes, size_t m, l
     if (old.base < r.base && r.limit < old.limit && land.ranges == m / 2)
         return (lg_block_changed){land, LG_ANSWER_FULL, {0, 0}};
     block_take(&land, nodes, behind - 1, old, r);
+    note_block(&land);
     return (lg_block_changed){land, LG_ANSWER_OK, old};
 }
 
 lg_block_changed c_block_walk(lg_block_land land, const uint64_t *nodes, size_t m, uint64_t from) {
     if (!block_set_up_ok(&land, m))
         return (lg_block_changed){land, LG_ANSWER_SET_UP, {0, 0}};
-    if (land.ranges > m / 2)
+    if (!block_handle_ok(&land, m))
         return (lg_block_changed){land, LG_ANSWER_DAMAGED, {0, 0}};
     table_scan s = scan_from_first(&land, nodes);
     if (!scan_below(&s, from))
@@ -284,7 +298,7 @@ lg_block_changed c_block_walk(lg_block_land land, const uint64_t *nodes, size_t 
 lg_block_found c_block_find_first(lg_block_land land, uint64_t *nodes, size_t m, uint64_t size, uint64_t mode) {
     if (!block_set_up_ok(&land, m))
         return (lg_block_found){land, LG_ANSWER_SET_UP, {0, 0}, {0, 0}};
-    if (land.ranges > m / 2)
+    if (!block_handle_ok(&land, m))
         return (lg_block_found){land, LG_ANSWER_DAMAGED, {0, 0}, {0, 0}};
     table_scan s = scan_from_first(&land, nodes);
     while (s.at != s.end && s.at[1] - s.at[0] < size)
@@ -298,8 +312,10 @@ lg_block_found c_block_find_first(lg_block_land land, uint64_t *nodes, size_t m,
     if (i == land.ranges)
         return (lg_block_found){land, LG_ANSWER_NONE, {0, 0}, {0, 0}};
     lg_range old = {nodes[2 * i], nodes[2 * i + 1]}, taken = part(old, size, mode, FIRST);
-    if (mode != LG_MODE_NONE)
+    if (mode != LG_MODE_NONE) {
         block_take(&land, nodes, i, old, taken);
+        note_block(&land);
+    }
     return (lg_block_found){land, LG_ANSWER_OK, taken, old};
 }
 
@@ -324,7 +340,7 @@ INLINE int scan_keep(table_scan *s, const uint64_t *nodes, uint64_t address, uin
 INLINE lg_block_found block_keep(lg_block_land land, uint64_t *nodes, size_t m, uint64_t size, uint64_t mode, int sort) {
     if (!block_set_up_ok(&land, m))
         return (lg_block_found){land, LG_ANSWER_SET_UP, {0, 0}, {0, 0}};
-    if (land.ranges > m / 2)
+    if (!block_handle_ok(&land, m))
         return (lg_block_found){land, LG_ANSWER_DAMAGED, {0, 0}, {0, 0}};
     table_scan s = scan_from_first(&land, nodes);
     kept_pair kept = {land.ranges, 0};
@@ -347,11 +363,11 @@ lg_flushed c_flush(lg_list_land list, const uint64_t *words, size_t n, lg_block_
     lg_pair pair = {list, block};
     if (!pair_set_up_ok(&pair, n, m))
         return (lg_flushed){list, block, LG_ANSWER_SET_UP, 0, 0};
-    list_walk w = walk_from_head(&list, words);
-    if (!rest_ok(&w, &list) || block.ranges > m / 2)
+    if (!pair_handle_ok(&pair, m))
         return (lg_flushed){list, block, LG_ANSWER_DAMAGED, 0, 0};
+    list_walk w = walk_from_head(&list, words);
     table_scan s = scan_from_first(&block, nodes);
-    if (!table_ok(&s, &block, nodes, m))
+    if (!rest_ok(&w, &list) || !table_ok(&s, &block, nodes, m))
         return (lg_flushed){list, block, LG_ANSWER_DAMAGED, 0, 0};
     return flushed(&pair, words, nodes, m, pairs_below(&block, nodes, list.head));
 }
@@ -396,7 +412,7 @@ static inline int merge_ok(merge *g, const lg_pair *pair, const uint64_t *nodes,
 lg_pair_changed c_pair_insert(lg_pair pair, uint64_t *words, size_t n, uint64_t *nodes, size_t m, lg_range r) {
     if (!pair_set_up_ok(&pair, n, m))
         return (lg_pair_changed){pair, LG_ANSWER_SET_UP, {0, 0}};
-    if (pair.block.ranges > m / 2)
+    if (!pair_handle_ok(&pair, m))
         return (lg_pair_changed){pair, LG_ANSWER_DAMAGED, {0, 0}};
     merge g = merge_from_first(&pair, words, nodes);
     node below = {0, 0, 0}, above = {0, 0, 0};
@@ -426,13 +442,14 @@ lg_pair_changed c_pair_insert(lg_pair pair, uint64_t *words, size_t n, uint64_t 
     lg_range all;
     if (!block_put(&pair.block, nodes, m, i, r, &all))
         all = list_put(&pair.list, words, below, above, r);
+    note_pair(&pair);
     return (lg_pair_changed){pair, LG_ANSWER_OK, all};
 }
 
 lg_pair_changed c_pair_delete(lg_pair pair, uint64_t *words, size_t n, uint64_t *nodes, size_t m, lg_range r) {
     if (!pair_set_up_ok(&pair, n, m))
         return (lg_pair_changed){pair, LG_ANSWER_SET_UP, {0, 0}};
-    if (pair.block.ranges > m / 2)
+    if (!pair_handle_ok(&pair, m))
         return (lg_pair_changed){pair, LG_ANSWER_DAMAGED, {0, 0}};
     merge g = merge_from_first(&pair, words, nodes);
     node met = {0, 0, 0};
@@ -452,6 +469,7 @@ lg_pair_changed c_pair_delete(lg_pair pair, uint64_t *words, size_t n, uint64_t 
         return (lg_pair_changed){pair, LG_ANSWER_REQUEST, {0, 0}};
     if (r.limit <= met.limit) {
         list_take(&pair.list, words, below, met, r);
+        note_list(&pair.list);
         return (lg_pair_changed){pair, LG_ANSWER_OK, {met.base, met.limit}};
     }
     if (behind == 0 || nodes[2 * behind - 1] < r.limit) {
@@ -464,6 +482,7 @@ lg_pair_changed c_pair_delete(lg_pair pair, uint64_t *words, size_t n, uint64_t 
         hand_over(&pair, words, nodes, behind - 1, met, r);
     else
         block_take(&pair.block, nodes, behind - 1, old, r);
+    note_block(&pair.block);
     return (lg_pair_changed){pair, LG_ANSWER_OK, old};
 }
 
@@ -509,7 +528,7 @@ lg_pair_found c_pair_find_first(lg_pair pair, uint64_t *words, size_t n, uint64_
                                 uint64_t mode) {
     if (!pair_set_up_ok(&pair, n, m))
         return (lg_pair_found){pair, LG_ANSWER_SET_UP, {0, 0}, {0, 0}};
-    if (pair.block.ranges > m / 2)
+    if (!pair_handle_ok(&pair, m))
         return (lg_pair_found){pair, LG_ANSWER_DAMAGED, {0, 0}, {0, 0}};
     merge g = merge_from_first(&pair, words, nodes);
     found_place f = {0, 0, {0, 0, 0}, NULL};
@@ -521,10 +540,13 @@ lg_pair_found c_pair_find_first(lg_pair pair, uint64_t *words, size_t n, uint64_
         return (lg_pair_found){pair, LG_ANSWER_NONE, {0, 0}, {0, 0}};
     lg_range old = f.in_list ? (lg_range){f.met.base, f.met.limit} : (lg_range){f.pair[0], f.pair[1]};
     lg_range taken = part(old, size, mode, FIRST);
-    if (mode != LG_MODE_NONE && f.in_list)
+    if (mode != LG_MODE_NONE && f.in_list) {
         list_take(&pair.list, words, f.below, f.met, taken);
-    else if (mode != LG_MODE_NONE)
+        note_list(&pair.list);
+    } else if (mode != LG_MODE_NONE) {
         block_take(&pair.block, nodes, (size_t)(f.pair - nodes) / 2, old, taken);
+        note_block(&pair.block);
+    }
     return (lg_pair_found){pair, LG_ANSWER_OK, taken, old};
 }
 
@@ -537,7 +559,7 @@ INLINE lg_pair_found pair_keep(lg_pair pair, uint64_t *words, size_t n, uint64_t
                                uint64_t mode, int sort) {
     if (!pair_set_up_ok(&pair, n, m))
         return (lg_pair_found){pair, LG_ANSWER_SET_UP, {0, 0}, {0, 0}};
-    if (pair.block.ranges > m / 2)
+    if (!pair_handle_ok(&pair, m))
         return (lg_pair_found){pair, LG_ANSWER_DAMAGED, {0, 0}, {0, 0}};
     merge g = merge_from_first(&pair, words, nodes);
     node met = {0, 0, 0}, listed = {0, 0, 0};

@@ -29,6 +29,22 @@ static inline int range_ok(uint64_t base, uint64_t limit, uint64_t align, lg_ran
     return base <= r.base && r.base < r.limit && r.limit <= limit && ((r.base | r.limit) & (align - 1)) == 0;
 }
 
+/* Are a mark and low water sound beside so many free bytes? */
+static inline int low_water_ok(uint64_t filled, uint64_t low, uint64_t bytes) {
+    return (filled == 1 && low <= bytes) || (filled | low | bytes) == 0;
+}
+
+/* Notes the free bytes that an accepted call leaves in a land that was sound: once, when all of the call is done. Bytes that
+ * are the same as before change nothing. */
+static inline void note(uint64_t *filled, uint64_t *low, uint64_t bytes) {
+    if (*filled == 0) {
+        *filled = bytes != 0;
+        *low = bytes;
+    } else if (bytes < *low) {
+        *low = bytes;
+    }
+}
+
 /* The three finds. */
 enum { FIRST, LAST, LARGEST };
 
@@ -55,6 +71,15 @@ typedef struct {
 
 static inline int list_set_up_ok(const lg_list_land *land, size_t n) {
     return arena_ok(land->base, land->limit, land->align) && n == (land->limit - land->base) / 8;
+}
+
+/* What is judged of the handle alone. */
+static inline int list_handle_ok(const lg_list_land *land) {
+    return low_water_ok(land->filled, land->low, land->bytes);
+}
+
+static inline void note_list(lg_list_land *land) {
+    note(&land->filled, &land->low, land->bytes);
 }
 
 static inline void write_node(uint64_t *words, uint64_t arena, uint64_t base, uint64_t limit, uint64_t next) {
@@ -139,8 +164,10 @@ INLINE lg_list_found list_found(lg_list_land *land, uint64_t *words, uint64_t be
     if (met.base == 0)
         return (lg_list_found){*land, LG_ANSWER_NONE, {0, 0}, {0, 0}};
     lg_range old = {met.base, met.limit}, taken = part(old, size, mode, sort);
-    if (mode != LG_MODE_NONE)
+    if (mode != LG_MODE_NONE) {
         list_take(land, words, below, met, taken);
+        note_list(land);
+    }
     return (lg_list_found){*land, LG_ANSWER_OK, taken, old};
 }
 
@@ -153,6 +180,15 @@ INLINE lg_list_changed list_walked(lg_list_land *land, node met) {
 
 static inline int block_set_up_ok(const lg_block_land *land, size_t m) {
     return arena_ok(land->base, land->limit, land->align) && m <= NODE_WORDS_MAX;
+}
+
+/* What is judged before the table is read. */
+static inline int block_handle_ok(const lg_block_land *land, size_t m) {
+    return land->ranges <= m / 2 && low_water_ok(land->filled, land->low, land->bytes);
+}
+
+static inline void note_block(lg_block_land *land) {
+    note(&land->filled, &land->low, land->bytes);
 }
 
 static inline void set_pair(uint64_t *nodes, size_t i, uint64_t base, uint64_t limit) {
@@ -230,6 +266,7 @@ INLINE lg_block_changed block_deleted(lg_block_land *land, uint64_t *nodes, size
     if (old.base < r.base && r.limit < old.limit && land->ranges == m / 2)
         return (lg_block_changed){*land, LG_ANSWER_FULL, {0, 0}};
     block_take(land, nodes, behind - 1, old, r);
+    note_block(land);
     return (lg_block_changed){*land, LG_ANSWER_OK, old};
 }
 
@@ -240,6 +277,7 @@ INLINE lg_block_changed block_inserted(lg_block_land *land, uint64_t *nodes, siz
         return (lg_block_changed){*land, LG_ANSWER_OVERLAP, {0, 0}};
     if (!block_put(land, nodes, m, i, r, &all))
         return (lg_block_changed){*land, LG_ANSWER_FULL, {0, 0}};
+    note_block(land);
     return (lg_block_changed){*land, LG_ANSWER_OK, all};
 }
 
@@ -250,8 +288,10 @@ INLINE lg_block_found block_found(lg_block_land *land, uint64_t *nodes, size_t i
     if (i == land->ranges)
         return (lg_block_found){*land, LG_ANSWER_NONE, {0, 0}, {0, 0}};
     lg_range old = {nodes[2 * i], nodes[2 * i + 1]}, taken = part(old, size, mode, sort);
-    if (mode != LG_MODE_NONE)
+    if (mode != LG_MODE_NONE) {
         block_take(land, nodes, i, old, taken);
+        note_block(land);
+    }
     return (lg_block_found){*land, LG_ANSWER_OK, taken, old};
 }
 
@@ -269,6 +309,15 @@ static inline int pair_set_up_ok(const lg_pair *pair, size_t n, size_t m) {
            pair->list.limit == pair->block.limit && pair->list.align == pair->block.align;
 }
 
+/* What is judged before the lands are read. */
+static inline int pair_handle_ok(const lg_pair *pair, size_t m) {
+    return list_handle_ok(&pair->list) && block_handle_ok(&pair->block, m);
+}
+
+static inline void note_pair(lg_pair *pair) {
+    note_list(&pair->list);
+    note_block(&pair->block);
+}
 
 /* The part of a table that a flush has still to merge stands as far up as the free pairs allow: what is merged never
  * reaches it, and there is room for one pair more as long as the two do not meet. */
@@ -307,18 +356,20 @@ INLINE uint64_t gap_put(gap *g, const uint64_t *nodes, node met, int apart) {
 INLINE uint64_t flush(lg_pair *pair, const uint64_t *words, uint64_t *nodes, size_t m, size_t i, int apart) {
     size_t ranges = pair->block.ranges, room = m / 2 - ranges;
     size_t shift = room < pair->list.ranges ? room : pair->list.ranges;
-    uint64_t stop = LG_ANSWER_OK;
+    uint64_t stop = LG_ANSWER_OK, moved = 0, bytes = 0;
     gap g = {nodes + 2 * i, nodes + 2 * (i + shift), nodes + 2 * (ranges + shift)};
     if (shift != 0)
         memmove(g.from, g.to, (ranges - i) * 16);
     node met = node_at(&pair->list, words, pair->list.head);
     while (met.base != 0 && (stop = gap_put(&g, nodes, met, apart)) == LG_ANSWER_OK) {
-        pair->list.ranges--;
-        pair->list.bytes -= met.limit - met.base;
-        pair->block.bytes += met.limit - met.base;
+        moved++;
+        bytes += met.limit - met.base;
         met = node_at(&pair->list, words, met.next);
     }
     pair->list.head = met.base;
+    pair->list.ranges -= moved;
+    pair->list.bytes -= bytes;
+    pair->block.bytes += bytes;
     if (g.to != g.from) {
         size_t rest = (size_t)(g.end - g.from);
         memmove(g.to, g.from, rest * 8);
@@ -332,6 +383,7 @@ INLINE uint64_t flush(lg_pair *pair, const uint64_t *words, uint64_t *nodes, siz
 INLINE lg_flushed flushed(lg_pair *pair, const uint64_t *words, uint64_t *nodes, size_t m, size_t i) {
     uint64_t before = pair->list.ranges;
     uint64_t stop = flush(pair, words, nodes, m, i, 0);
+    note_pair(pair);
     return (lg_flushed){pair->list, pair->block, LG_ANSWER_OK, before - pair->list.ranges, stop};
 }
 
@@ -352,6 +404,7 @@ INLINE lg_pair_changed pair_put(lg_pair *pair, uint64_t *words, uint64_t *nodes,
     lg_range all;
     if (!block_put(&pair->block, nodes, m, i, r, &all))
         all = list_put(&pair->list, words, below, above, r);
+    note_pair(pair);
     return (lg_pair_changed){*pair, LG_ANSWER_OK, all};
 }
 
@@ -375,6 +428,7 @@ static inline void hand_over(lg_pair *pair, uint64_t *words, uint64_t *nodes, si
     nodes[2 * i + 1] = r.base;
     pair->block.bytes -= upper.limit - r.base;
     list_put(&pair->list, words, met, above, upper);
+    note_list(&pair->list);
 }
 
 /* The end of a delete of r. `met` of the list is the last range that does not begin above it, and follows the range at
@@ -383,6 +437,7 @@ INLINE lg_pair_changed pair_deleted(lg_pair *pair, uint64_t *words, uint64_t *no
                                     size_t behind, lg_range r) {
     if (r.limit <= met.limit) {
         list_take(&pair->list, words, below, met, r);
+        note_list(&pair->list);
         return (lg_pair_changed){*pair, LG_ANSWER_OK, {met.base, met.limit}};
     }
     if (behind == 0 || nodes[2 * behind - 1] < r.limit) {
@@ -395,6 +450,7 @@ INLINE lg_pair_changed pair_deleted(lg_pair *pair, uint64_t *words, uint64_t *no
         hand_over(pair, words, nodes, behind - 1, met, r);
     else
         block_take(&pair->block, nodes, behind - 1, old, r);
+    note_block(&pair->block);
     return (lg_pair_changed){*pair, LG_ANSWER_OK, old};
 }
 
@@ -422,10 +478,13 @@ INLINE lg_pair_found pair_found(lg_pair *pair, uint64_t *words, uint64_t *nodes,
         return (lg_pair_found){*pair, LG_ANSWER_NONE, {0, 0}, {0, 0}};
     int in_list = list_has_it(met, tabled, sort);
     lg_range old = in_list ? (lg_range){met.base, met.limit} : tabled, taken = part(old, size, mode, sort);
-    if (mode != LG_MODE_NONE && in_list)
+    if (mode != LG_MODE_NONE && in_list) {
         list_take(&pair->list, words, below, met, taken);
-    else if (mode != LG_MODE_NONE)
+        note_list(&pair->list);
+    } else if (mode != LG_MODE_NONE) {
         block_take(&pair->block, nodes, i, old, taken);
+        note_block(&pair->block);
+    }
     return (lg_pair_found){*pair, LG_ANSWER_OK, taken, old};
 }
 

@@ -17,7 +17,7 @@ static inline uint64_t tail_bits(const uint64_t *nodes, size_t from, size_t to) 
  * smaller. Limits ascend, so the last one alone is compared with the arena's. */
 static inline int table_ok(const lg_block_land *land, const uint64_t *nodes, size_t m) {
     size_t ranges = land->ranges;
-    if (ranges > m / 2)
+    if (!block_handle_ok(land, m))
         return 0;
     uint64_t apart = UINT64_MAX, bits = 0, bytes = 0, past = land->base - 1;
     for (size_t k = 0; k < ranges; k++) {
@@ -177,7 +177,8 @@ INLINE int read_last(list_walk *w, const lg_list_land *land, size_t n, beside *t
     return 1;
 }
 
-/* Was the list sound? Limits ascend, so the last one alone is compared with the arena's. */
+/* Was the list sound? Limits ascend, so the last one alone is compared with the arena's. The handle's mark and low water are
+ * judged apart, before the walk or behind it, where they take no register of the loop. */
 static inline int walked_ok(const list_walk *w, const lg_list_land *land) {
     return w->at == 0 && (w->bits & (land->align - 1)) == 0 && w->past <= land->limit && w->ranges == land->ranges &&
            w->bytes == land->bytes;
@@ -199,11 +200,13 @@ INLINE int list_seek(const lg_list_land *land, const uint64_t *words, size_t n, 
     }
     if (read_last(&w, land, n, t) && address > land->limit - 8)
         *s = (spot){land->limit - 8, s->below};
-    return walked_ok(&w, land);
+    return walked_ok(&w, land) && list_handle_ok(land);
 }
 
 /* The first range that has the size. */
 INLINE int list_find_short(const lg_list_land *land, const uint64_t *words, size_t n, uint64_t size, beside *t, spot *s) {
+    if (!list_handle_ok(land))
+        return 0;
     uint64_t stop = last_start(land, n);
     list_walk w = walk_from_head(land, words);
     int found = 0;
@@ -234,7 +237,7 @@ INLINE int list_find_long(const lg_list_land *land, const uint64_t *words, size_
     }
     if (read_last(&w, land, n, t) && least <= 8)
         before = w.before;
-    if (!walked_ok(&w, land))
+    if (!walked_ok(&w, land) || !list_handle_ok(land))
         return 0;
     *s = (spot){0, 0};
     if (before != none)
@@ -264,6 +267,7 @@ INLINE lg_list_changed list_insert(lg_list_land *land, uint64_t *words, size_t n
     if (list_overlaps(below, above, r))
         return (lg_list_changed){*land, LG_ANSWER_OVERLAP, {0, 0}};
     lg_range all = list_put(land, words, below, above, r);
+    note_list(land);
     return (lg_list_changed){*land, LG_ANSWER_OK, all};
 }
 
@@ -279,6 +283,7 @@ INLINE lg_list_changed list_delete(lg_list_land *land, uint64_t *words, size_t n
     if (r.limit > met.limit)
         return (lg_list_changed){*land, LG_ANSWER_OVERLAP, {0, 0}};
     list_take(land, words, s.before, met, r);
+    note_list(land);
     return (lg_list_changed){*land, LG_ANSWER_OK, {met.base, met.limit}};
 }
 

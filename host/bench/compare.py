@@ -1,11 +1,12 @@
 #!/usr/bin/env python3
 """The measurements of two archives side by side, as the tables of docs/PERFORMANCE.md.
 
-    python3 host/bench/compare.py BEFORE AFTER [--runs N] [--quick] [--no-times] [--no-counts]
+    python3 host/bench/compare.py BEFORE AFTER [--before-host DIR] [--runs N] [--quick] [--no-times] [--no-counts]
 
 BEFORE and AFTER are folders with a liblimbegoru.a. A bench is built with each, and they run in turn, three times each where
 --runs does not say otherwise: the times are medians of the runs, the ratios medians of each run's own ratios. Then valgrind
-counts instructions, of the loops and a call, which do not vary.
+counts instructions, of the loops and a call, which do not vary. Where the interface of BEFORE is another one, --before-host
+is the folder host of its tree: its bench is built from there, and the baselines' columns are those of AFTER.
 """
 
 import argparse
@@ -29,11 +30,11 @@ COUNTED_RANGES = [4, 16, 256, 4096]
 PREFIXES = {"proved": "lg_", "c": "c_", "best": "b_"}
 
 
-def build(name, folder):
+def build(name, folder, host=HOST):
     """The program linked with the archive in a folder."""
     target = os.path.join(TARGET, name)
     env = {**os.environ, "LIMBEGORU_ARCHIVE_DIR": os.path.abspath(folder), "CARGO_TARGET_DIR": target}
-    subprocess.run(["cargo", "build", "--offline", "--release", "-q", "-p", "bench"], cwd=HOST, env=env, check=True)
+    subprocess.run(["cargo", "build", "--offline", "--release", "-q", "-p", "bench"], cwd=host, env=env, check=True)
     return os.path.join(target, "release", "bench")
 
 
@@ -70,38 +71,36 @@ def head(fields):
     print("|" + "---|" * len(fields))
 
 
-def print_calls(before, after, table, wanted):
+def print_calls(before, after, baselines, table, wanted):
     head(["land", "workload", "ranges", "before", "after", "C", "best C", "Rust", "before/C", "after/C",
           "before/best C", "after/best C"])
     for key in before[0][table][1]:
         if not wanted(key[0]):
             continue
-        both = before + after
         fields = [key[0], key[1], f"{int(key[2]):,}"]
         fields += [shown(middle(runs, table, key, "proved"), 1) for runs in (before, after)]
-        fields += [shown(middle(both, table, key, column), 1) for column in ("C", "best C", "Rust")]
+        fields += [shown(middle(baselines, table, key, column), 1) for column in ("C", "best C", "Rust")]
         fields += [shown(middle(runs, table, key, ratio), 2) for ratio in ("proved/C", "proved/best C")
                    for runs in (before, after)]
         line(fields)
     print()
 
 
-def print_tails(before, after, table):
+def print_tails(before, after, baselines, table):
     head(["ranges", "capacity", "words behind", "before", "after", "C", "best C", "before/best C", "after/best C",
           "before, a word", "after, a word", "best C, a word"])
     for key in before[0][table][1]:
-        both = before + after
         fields = [f"{int(field):,}" for field in key]
         fields += [shown(middle(runs, table, key, "proved"), 1) for runs in (before, after)]
-        fields += [shown(middle(both, table, key, column), 1) for column in ("C", "best C")]
+        fields += [shown(middle(baselines, table, key, column), 1) for column in ("C", "best C")]
         fields += [shown(middle(runs, table, key, "proved/best C"), 2) for runs in (before, after)]
         fields += [shown(middle(runs, table, key, "proved, a word"), 3) for runs in (before, after)]
-        fields.append(shown(middle(both, table, key, "best C, a word"), 3))
+        fields.append(shown(middle(baselines, table, key, "best C, a word"), 3))
         line(fields)
     print()
 
 
-def times(programs, runs, quick):
+def times(programs, runs, quick, same_host):
     read = {name: [] for name in programs}
     for number in range(runs):
         for name in sorted(programs, reverse=number % 2 == 0):
@@ -109,14 +108,15 @@ def times(programs, runs, quick):
             ran = subprocess.run(command, capture_output=True, text=True, check=True)
             read[name].append(tables(ran.stdout))
     before, after = read["before"], read["after"]
+    baselines = before + after if same_host else after
     print(f"Medians of {runs} runs each.\n\nThe lands:\n")
-    print_calls(before, after, 0, lambda land: not land.startswith("pair"))
+    print_calls(before, after, baselines, 0, lambda land: not land.startswith("pair"))
     print("The pair:\n")
-    print_calls(before, after, 0, lambda land: land.startswith("pair"))
+    print_calls(before, after, baselines, 0, lambda land: land.startswith("pair"))
     print("Further calls:\n")
-    print_calls(before, after, 1, lambda land: True)
+    print_calls(before, after, baselines, 1, lambda land: True)
     print("Node space behind the ranges:\n")
-    print_tails(before, after, 2)
+    print_tails(before, after, baselines, 2)
 
 
 def loops(programs):
@@ -161,14 +161,16 @@ def main():
     parser = argparse.ArgumentParser()
     parser.add_argument("before")
     parser.add_argument("after")
+    parser.add_argument("--before-host", default=HOST)
     parser.add_argument("--runs", type=int, default=3)
     parser.add_argument("--quick", action="store_true")
     parser.add_argument("--no-times", action="store_true")
     parser.add_argument("--no-counts", action="store_true")
     options = parser.parse_args()
-    programs = {"before": build("before", options.before), "after": build("after", options.after)}
+    before_host = os.path.abspath(options.before_host)
+    programs = {"before": build("before", options.before, before_host), "after": build("after", options.after)}
     if not options.no_times:
-        times(programs, options.runs, options.quick)
+        times(programs, options.runs, options.quick, before_host == HOST)
     if not options.no_counts:
         print("Instructions:\n")
         loops(programs)

@@ -1,4 +1,4 @@
-/* A host that gives out parts of its own memory and takes them back, also twice. */
+/* A host that gives out parts of its own memory and takes them back, also twice, and reads how much it had to spare. */
 #include <inttypes.h>
 #include <stdio.h>
 
@@ -44,6 +44,7 @@ static lg_list_land release_twice(lg_range *first, lg_range *second) {
     lg_list_changed again = lg_list_insert(released.land, memory, WORDS, one.range);
     expect("released again", again.answer, LG_ANSWER_OVERLAP);
     expect("its range is empty", again.range.base + again.range.limit, 0);
+    expect("low water, both paragraphs being out", again.land.low, all.limit - all.base - 80);
     *first = one.range;
     *second = two.range;
     return again.land;

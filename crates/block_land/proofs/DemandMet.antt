@@ -2,15 +2,16 @@
 use Prim.Native.Nat.{ℕ}
 use mathlib.Core.Bool.{true}
 use mathlib.Core.List.{List, []}
-use mathlib.Core.Path.{_≡_}
+use mathlib.Core.Path.{_≡_, refl}
 use native.Mathlib.Omega.{arith}
 use Rattle.units.proofs.Tests.{by}
 use Rattle.model.proofs.DemandMet.{demand-3}
+use Rattle.model.proofs.LowWaters.{low-over-closings}
 use Rattle.block_words.specs.Words.{fill}
 use Rattle.block_words.proofs.Filling.{length-fill}
 use Rattle.block_land.specs.Layout.{setUp, layout}
 use Rattle.block_land.specs.Calls.{newLand, openedOf, openedWords}
-use Rattle.block_land.specs.Claims.{BlockDemand3}
+use Rattle.block_land.specs.Claims.{BlockDemand3, BlockLow}
 use Rattle.block_land.proofs.LayoutLaws.{read-filled, block-laws}
 
 pub record Opens (b l a : ℕ) (ws : List ℕ) : Type 0 where
@@ -31,3 +32,7 @@ block-demand-3 b l a ws e cs os t =
     let h = newLand b l a in
     rw (length-fill [] ws) at
     (demand-3 layout block-laws h (fill [] ws) [] (read-filled h ws [] (g .good) tt tt (omega arith)) cs os (rw (g .land, g .words) at t))
+
+-- LOW WATER OVER CALLS OF ANY KIND
+pub block-low : BlockLow
+block-low = low-over-closings layout (λ h rs. refl)

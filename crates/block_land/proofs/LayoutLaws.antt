@@ -7,7 +7,10 @@ use native.Mathlib.Omega.{arith}
 use lib.ListN.{length, drop, length-drop}
 use lib.Seq.{getD-drop}
 use borrow.Author.Tests.{eq-eqb, le-leb, leb-true}
+use Rattle.units.specs.LowWater.{soundLow}
 use Rattle.units.specs.declared.Size.{Size}
+use Rattle.units.specs.declared.low_water.LowWater.{LowWater}
+use Rattle.units.proofs.LowWaters.{noted-same, sound-noted}
 use Rattle.model.specs.Marks.{Range, total}
 use Rattle.model.specs.inner.Lists.{Apart, Aligned}
 use Rattle.model.specs.Layouts.{holding}
@@ -53,6 +56,7 @@ read-filled h ws rs g p a k =
       pairs-fill rs ws k,
       apart-canonical (base h) (limit h) (align h) rs p a,
       eq-eqb (total rs) (total rs) refl,
+      sound-noted (h .water) (total rs),
     )
 
 -- a handle closed with the counts of its ranges
@@ -61,7 +65,12 @@ closed-as h rs n s c b = λ i. closedWith h (c i) (record { 0 = b i })
 
 -- the handle and the words of a sound table are those that close its ranges
 pub handle-back : (h : BlockLand) (ws : List ℕ) → Fine h ws → closed h (tableOf h ws) ≡ h
-handle-back h ws f = sym (closed-as h (tableOf h ws) (h .ranges) (h .bytes) (f .count) (f .bytes))
+handle-back h ws f =
+    sym (closed-as h (tableOf h ws) (h .ranges) (h .bytes) (f .count) (f .bytes)) ∙ with-water h (noted-same (h .water) (h .bytes .0) (f .low))
+  where
+    with-water : (h : BlockLand) {w : LowWater} → w ≡ h .water →
+        record { base = h .base; limit = h .limit; align = h .align; ranges = h .ranges; bytes = h .bytes; water = w } ≡ h
+    with-water h e = λ i. record { base = h .base; limit = h .limit; align = h .align; ranges = h .ranges; bytes = h .bytes; water = e i }
 
 pub words-back : (h : BlockLand) (ws : List ℕ) → Fine h ws → fill (tableOf h ws) ws ≡ ws
 words-back h ws f = fill-pairs ws (h .ranges) (f .fits) (f .clean)
@@ -120,12 +129,16 @@ block-laws = record {
           canon = record { apart = rw (p .same) at (f .apart); aligned = rw (p .same) at (f .aligned) };
           room = le-leb (length rs) (capacity ws) (rw c at (f .fits));
         },
-        λ i. record { reads = e i; count = c i; bytes = b i },
+        λ i. record { reads = e i; count = c i; bytes = b i; mark = h .water .filled; low = h .water .low .0 },
       );
   read-write = λ h ws rs rs' e f.
       let p = reads h ws rs e in
       let c = f .canon in
       read-filled h ws rs' (p .good) (c .apart) (c .aligned) (leb-true (length rs') (capacity ws) (f .room));
+  note-write = λ h ws rs. refl;
+  close-same = λ h ws rs e.
+      let p = reads h ws rs e in
+      rw (p .same) at (handle-back h ws (fine h ws (p .good) (p .whole)));
   arena-write = λ h ws rs. rw (length-fill rs ws);
   read-host = λ h ws ws' rs e m. same-read h ws ws' m ∙ e;
   arena-host = λ h ws ws' m. rw (m .0);

@@ -6,6 +6,7 @@ use mathlib.Core.Path.{_≡_, sym}
 use lib.Dec.{leb}
 use lib.ListN.{length, drop}
 use borrow.Author.Tests.{eqb-true, leb-true}
+use Rattle.units.specs.LowWater.{soundLow}
 use Rattle.units.specs.Rules.{arenaCheck, goodArena}
 use Rattle.units.specs.declared.rules.ArenaCheck.{ArenaCheck}
 use Rattle.units.proofs.Alignments.{align-positive}
@@ -48,10 +49,12 @@ pub record Fine (h : BlockLand) (ws : List ℕ) : Type 0 where
   pub aligned : Aligned (align h) (tableOf h ws)
   pub count : h .ranges ≡ length (tableOf h ws)
   pub bytes : h .bytes .0 ≡ total (tableOf h ws)
+  pub low : soundLow (h .water) (h .bytes .0) ≡ true
 
 pub fine : (h : BlockLand) (ws : List ℕ) → setUp h ws ≡ true → sound h ws ≡ true → Fine h ws
 unfolding sound soundTable
-fine h ws g s =
+fine h ws g t =
+    let s = and-left _ (soundLow (h .water) (h .bytes .0)) t in
     let n = h .ranges in
     let rs = tableOf h ws in
     let k = leb-true n (capacity ws) (and-left _ _ s) in
@@ -66,4 +69,5 @@ fine h ws g s =
       aligned = c .1;
       count = sym (length-pairs ws n k);
       bytes = eqb-true (h .bytes .0) (total rs) (and-right (canonical (base h) (limit h) (align h) rs) _ s2);
+      low = and-right (soundTable (base h) (limit h) (align h) ws n (h .bytes .0)) _ t;
     }

@@ -6,6 +6,7 @@ use mathlib.Core.Option.{some}
 use mathlib.Core.Path.{_≡_}
 use lib.Dec.{leb}
 use lib.ListN.{length, getD}
+use Rattle.units.specs.LowWater.{noted, soundLow}
 use Rattle.units.specs.Rules.{arenaCheck, goodArena}
 use Rattle.units.specs.declared.Size.{Size}
 use Rattle.model.specs.Marks.{Range, total}
@@ -36,8 +37,9 @@ lent ws = leb (length ws) 2097152
 unfoldable pub setUp : BlockLand → List ℕ → Bool
 setUp h ws = goodArena (arenaCheck (base h) (limit h) (align h)) && lent ws
 
+-- The table and both counts, and the mark and low water.
 unfoldable pub sound : BlockLand → List ℕ → Bool
-sound h ws = soundTable (base h) (limit h) (align h) ws (h .ranges) (h .bytes .0)
+sound h ws = soundTable (base h) (limit h) (align h) ws (h .ranges) (h .bytes .0) && soundLow (h .water) (h .bytes .0)
 
 -- The ranges of the table.
 abbrev pub tableOf : BlockLand → List ℕ → List Range
@@ -47,9 +49,9 @@ tableOf h ws = pairs ws (h .ranges)
 unfoldable pub readOf : BlockLand → List ℕ → Reading (List Range)
 readOf h ws = reading (setUp h ws) (sound h ws) (tableOf h ws)
 
--- The handle with other counts.
+-- The handle with other counts, of which the free bytes are noted.
 abbrev pub closedWith : BlockLand → ℕ → Size → BlockLand
-closedWith h n s = record { base = h .base; limit = h .limit; align = h .align; ranges = n; bytes = s }
+closedWith h n s = record { base = h .base; limit = h .limit; align = h .align; ranges = n; bytes = s; water = noted (h .water) (s .0) }
 
 -- The handle after an accepted call: the number of ranges and of free bytes.
 abbrev pub closed : BlockLand → List Range → BlockLand
@@ -64,7 +66,8 @@ abbrev pub layout : LandLayout BlockLand
 layout = record {
   arena = arenaOf;
   read = readOf;
-  show = λ h ws. record { reads = readOf h ws; count = h .ranges; bytes = h .bytes .0 };
+  noted = λ h. h .water;
+  show = λ h ws. record { reads = readOf h ws; count = h .ranges; bytes = h .bytes .0; mark = h .water .filled; low = h .water .low .0 };
   close = closed;
   words = λ h ws rs. fill rs ws;
   host = λ h ws ws'. SamePairs ws ws';

@@ -58,7 +58,7 @@ impl BlockLand {
         }
     }
 
-    // The find that `which` names: the set-up, the size, the one scan, and then 6, 4, 2 and the removal.
+    // The find that `which` names: the set-up, the size, low water and the one scan, and then 6, 4, 2 and the removal.
     pub fn find(self, nodes: &mut [u64], which: Which, size: Size, mode: Mode) -> Found
         ensures { λ r. ⌜ (r ≡ foundOf (found self (now (nodes .entry)) which (size .0) mode)) × (now (nodes .exit) ≡ found self (now (nodes .entry)) which (size .0) mode .words) ⌝ }
     {
@@ -68,8 +68,7 @@ impl BlockLand {
         let arena = self.good_arena();
         let check = arena.check_find(which, size);
         let wanted = arena.find_size(size);
-        let bytes = self.bytes;
-        let Soundness::Sound = block_words::sound(arena, nodes, self.ranges, bytes) else {
+        let Soundness::Sound = self.judge(arena, nodes) else {
             return none_found(self, 6);
         };
         let SizeCheck::Good = check else {

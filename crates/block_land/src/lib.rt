@@ -14,18 +14,20 @@ use units::Aim;
 use units::Align;
 use units::Arena;
 use units::ArenaCheck;
+use units::LowWater;
 use units::Range;
 use units::SetUp;
 use units::Size;
+use units::Soundness;
 ghost use mathlib.Core.Bool.{true};
 ghost use mathlib.Core.Path.{_≡_};
 ghost use Rattle.units.specs.Rules.{goodAlign};
-ghost use Rattle.units.specs.inner.Parts.{setUpOf};
-ghost use Rattle.block_land.specs.Layout.{lent, setUp, closedWith};
+ghost use Rattle.units.specs.inner.Parts.{setUpOf, soundnessOf};
+ghost use Rattle.block_land.specs.Layout.{lent, setUp, sound, closedWith};
 ghost use Rattle.block_land.specs.Calls.{changed, walked};
 ghost use Rattle.block_land.specs.inner.Parts.{arenaIn, lookNumber, lookOf, refusedBy};
 
-// The handle of a block land: its arena, the number of ranges and of free bytes.
+// The handle of a block land: its arena, the number of ranges and of free bytes, the mark and low water.
 #[repr(C)]
 pub struct BlockLand {
     pub base: Addr,
@@ -33,6 +35,7 @@ pub struct BlockLand {
     pub align: Align,
     pub ranges: u64,
     pub bytes: Size,
+    pub water: LowWater,
 }
 
 // What an opening returns.
@@ -129,24 +132,44 @@ impl BlockLand {
         lent(nodes)
     }
 
-    // The one scan of a call.
+    // Low water, and the one scan of a call: whether the land is sound.
+    pub(crate) fn judge(self, arena: Arena, nodes: &[u64]) -> Soundness
+        requires { ⌜ setUp self (now nodes) ≡ true ⌝ }
+        requires { ⌜ arena ≡ arenaIn self ⌝ }
+        ensures { λ r. ⌜ r ≡ soundnessOf (sound self (now (nodes .entry))) ⌝ }
+    {
+        let water = self.water;
+        let bytes = self.bytes;
+        let Soundness::Sound = water.check(bytes) else {
+            return Soundness::Damaged;
+        };
+        block_words::sound(arena, nodes, self.ranges, bytes)
+    }
+
+    // The same, with what is aimed at.
     pub fn look(self, nodes: &[u64], aim: Aim) -> Look
         ensures { λ r. ⌜ r ≡ lookOf self (now (nodes .entry)) aim ⌝ }
     {
         let SetUp::Good = self.set_up(nodes) else {
             return Look::BadSetUp;
         };
+        let water = self.water;
         let bytes = self.bytes;
+        let Soundness::Sound = water.check(bytes) else {
+            return Look::Damaged;
+        };
         match block_words::survey(self.arena(), nodes, self.ranges, bytes, aim) {
             Verdict::Damaged => Look::Damaged,
             Verdict::Sound(entry) => Look::Sound(entry),
         }
     }
 
-    // The next handle of every accepted call.
+    // The next handle of every accepted call, in which the number of free bytes is noted.
     pub fn close(mut self, ranges: u64, bytes: Size) -> BlockLand
         ensures { λ r. ⌜ r ≡ closedWith self ranges bytes ⌝ }
     {
+        let water = self.water;
+        self.water = water.noted(bytes);
         self.ranges = ranges;
         self.bytes = bytes;
         self

@@ -3,4 +3,4 @@ use Prim.Native.Nat.{ℕ}
 
 -- Raised by one where a struct, a function or the meaning of an answer changes.
 abbrev pub version : ℕ
-version = 1
+version = 2

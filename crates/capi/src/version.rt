@@ -6,5 +6,5 @@ ghost use Rattle.capi.specs.Version.{version};
 pub extern "C" fn lg_version() -> u64
     ensures { λ r. ⌜ r ≡ version ⌝ }
 {
-    1
+    2
 }

@@ -23,6 +23,7 @@ use Rattle.list_land.specs.Layout as list
 use Rattle.list_land.specs.inner.Parts as list-parts
 use Rattle.list_land.specs.declared.ListLand.{ListLand}
 use Rattle.list_land.proofs.LayoutLaws as list-laws
+use Rattle.list_land.proofs.Sound as list-sound
 use Rattle.block_land.specs.Layout as block
 use Rattle.block_land.specs.declared.BlockLand.{BlockLand}
 use Rattle.block_land.proofs.LayoutLaws as block-laws
@@ -48,8 +49,8 @@ module _ (h : ListLand) (ws : List ℕ) (k : BlockLand) (vs : List ℕ) (g : che
   c = checked h ws k vs g
 
   clean : isClean (list.walkOf h ws .end) ≡ true
-  unfolding list.sound soundWalk
-  clean = and-left _ _ (c .list-sound)
+  unfolding soundWalk
+  clean = and-left _ _ (list-sound.sound-walk h ws (c .list-sound))
 
   pub going : (a : units.Arena) → a ≡ list-parts.arenaIn h → Going a ws (h .head .0) vs (k .ranges)
   going a ea =

@@ -14,17 +14,18 @@ use Rattle.model.specs.Calls.{Arena, unbounded}
 use Rattle.model.specs.Layouts.{holding}
 use Rattle.model.specs.inner.Laws.{Fine}
 use Rattle.model.specs.Flushing.{flush, Flushes}
-use Rattle.model.proofs.Flushing.{flushes}
+use Rattle.model.specs.LowWater.{begins, closes}
+use Rattle.model.proofs.Flushing.{flushes, flush-still}
 use Rattle.list_words.proofs.Laid.{Laid, laid-rest, lay-laid}
 use Rattle.list_land.specs.Layout as list
 use Rattle.list_land.specs.declared.ListLand.{ListLand}
 use Rattle.list_land.proofs.Sound as list-sound
-use Rattle.list_land.proofs.LayoutLaws.{read-laid}
+use Rattle.list_land.proofs.LayoutLaws.{list-laws, read-laid}
 use Rattle.block_words.specs.Words.{capacity, fill}
 use Rattle.block_land.specs.Layout as block
 use Rattle.block_land.specs.declared.BlockLand.{BlockLand}
 use Rattle.block_land.proofs.Sound as block-sound
-use Rattle.block_land.proofs.LayoutLaws.{read-filled}
+use Rattle.block_land.proofs.LayoutLaws.{block-laws, read-filled}
 use Rattle.flush.specs.Flush.{Done, sameArena, checkNumber, checkOf, moves, accepted, done, flushed}
 use Rattle.flush.specs.declared.FlushCheck.{FlushCheck}
 use Rattle.flush.specs.Claims.{Kept, FlushKeeps}
@@ -188,6 +189,12 @@ module _ (h : ListLand) (ws : List ℕ) (k : BlockLand) (vs : List ℕ) (c : Che
         flushes = subst (λ (d : Done). Flushes a rs ts (record { moved = d .result .moved; stop = d .result .stop; left = left; into = into })) (sym e) f;
         moved = rw e (let m = f .moved in omega arith);
         sum = rw e (let m = f .sum in omega arith);
+        list-closing = rw e (closes begins left);
+        block-closing = rw e (closes begins into);
+        idle = rw e (λ m. let n = flush-still a rs ts m in (
+          ap (list.closed h) (n .0) ∙ list-laws .close-same h ws rs (list-reads h ws (c .list-up) (c .list-sound)),
+          ap (block.closed k) (n .1) ∙ block-laws .close-same k vs ts (block-reads k vs (c .block-up) (c .block-sound)),
+        ));
       }
 
 answer-of : (h : ListLand) (ws : List ℕ) (k : BlockLand) (vs : List ℕ) → flushed h ws k vs .result .answer ≡ 0 → done h ws k vs (checkOf h ws k vs) .result .answer ≡ 0

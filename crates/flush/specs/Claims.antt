@@ -1,10 +1,11 @@
 -- What an accepted flush keeps, read from the handles and words before and after. Assumes nothing.
 use Prim.Native.Nat.{ℕ, _+_}
-use mathlib.Core.List.{List}
+use mathlib.Core.List.{List, [], _∷_}
 use mathlib.Core.Path.{_≡_}
-use Rattle.model.specs.Marks.{Range}
+use Rattle.model.specs.Marks.{Range, total}
 use Rattle.model.specs.Layouts.{holding}
 use Rattle.model.specs.Flushing.{Flushes}
+use Rattle.model.specs.LowWater.{Closings}
 use Rattle.list_words.specs.Laying.{lay}
 use Rattle.list_land.specs.Layout as list
 use Rattle.list_land.specs.declared.ListLand.{ListLand}
@@ -35,6 +36,11 @@ module _ (h : ListLand) (ws : List ℕ) (k : BlockLand) (vs : List ℕ) where
     -- by the counts of the handles: the number moved is the number of ranges that the list lost, and no byte is lost
     pub moved : after .result .moved + after .result .list .ranges ≡ h .ranges
     pub sum : after .result .list .bytes .0 + after .result .block .bytes .0 ≡ h .bytes .0 + k .bytes .0
+    -- low water counts it as one accepted call on each land, however many ranges it moves
+    pub list-closing : Closings list.layout h (total list-after ∷ []) (after .result .list)
+    pub block-closing : Closings block.layout k (total block-after ∷ []) (after .result .block)
+    -- one that moves none leaves both handles as they are
+    pub idle : after .result .moved ≡ 0 → (after .result .list ≡ h) × (after .result .block ≡ k)
 
 -- Every flush that is answered 0.
 abbrev pub FlushKeeps : Type 0

@@ -1,7 +1,7 @@
 // Plays records of standard input on the list land, the block land and the pair, each with its own handle and words, and
 // prints what each call returns. It assumes the contracts of libc's read and write, and nothing else.
 //
-// A record is OP base limit align head ranges bytes NWORDS w0 .. A B C. OP: 0 open, 1 insert, 2 delete, 3 find first,
+// A record is OP base limit align head ranges bytes filled low NWORDS w0 .. A B C. OP: 0 open, 1 insert, 2 delete, 3 find first,
 // 4 find last, 5 find largest, 6 walk on a list land; 10 to 16 the same on a block land, whose head is not read, and
 // is printed as 0. A find's mode is B: 0 none, 1 low, 2 high, 3 entire.
 //
@@ -16,6 +16,7 @@ use list_land::ListLand;
 use pair::Pair;
 use units::Addr;
 use units::Align;
+use units::LowWater;
 use units::Mode;
 use units::Range;
 use units::Size;
@@ -128,8 +129,16 @@ fn mode_of(n: u64) -> Mode {
     }
 }
 
+// The mark and low water in the first numbers of a record.
+fn low_water(front: &[u64; 10]) -> LowWater {
+    LowWater {
+        filled: front[7],
+        low: Size::new(front[8]),
+    }
+}
+
 // The handle in the first numbers of a record.
-fn handle(front: &[u64; 8]) -> ListLand {
+fn handle(front: &[u64; 10]) -> ListLand {
     ListLand {
         base: Addr::new(front[1]),
         limit: Addr::new(front[2]),
@@ -137,16 +146,18 @@ fn handle(front: &[u64; 8]) -> ListLand {
         head: Addr::new(front[4]),
         ranges: front[5],
         bytes: Size::new(front[6]),
+        water: low_water(front),
     }
 }
 
-fn block_handle(front: &[u64; 8]) -> BlockLand {
+fn block_handle(front: &[u64; 10]) -> BlockLand {
     BlockLand {
         base: Addr::new(front[1]),
         limit: Addr::new(front[2]),
         align: Align::new(front[3]),
         ranges: front[5],
         bytes: Size::new(front[6]),
+        water: low_water(front),
     }
 }
 
@@ -156,6 +167,7 @@ fn with_head(h: BlockLand) -> ListLand {
     let limit = h.limit;
     let align = h.align;
     let bytes = h.bytes;
+    let water = h.water;
     ListLand {
         base,
         limit,
@@ -163,6 +175,7 @@ fn with_head(h: BlockLand) -> ListLand {
         head: Addr::new(0),
         ranges: h.ranges,
         bytes,
+        water,
     }
 }
 
@@ -287,6 +300,8 @@ fn show_land(land: ListLand) {
     show(land.head.number());
     show(land.ranges);
     show(land.bytes.number());
+    show(land.water.filled);
+    show(land.water.low.number());
 }
 
 fn show_range(range: Range) {
@@ -338,7 +353,7 @@ fn show_pair(found: pair::Found, words: &[u64], nodes: &[u64]) {
 }
 
 // The call of a record, and its line.
-fn play_call(front: &[u64; 8], words: &mut [u64], args: &[u64; 3]) {
+fn play_call(front: &[u64; 10], words: &mut [u64], args: &[u64; 3]) {
     if front[0] < 10 {
         let found = call(front[0], handle(front), words, args[0], args[1]);
         show_line(found, words);
@@ -349,7 +364,7 @@ fn play_call(front: &[u64; 8], words: &mut [u64], args: &[u64; 3]) {
 }
 
 // The flush of a record, and its line.
-fn play_flush(front: &[u64; 8], words: &[u64], second: &[u64; 8], nodes: &mut [u64]) {
+fn play_flush(front: &[u64; 10], words: &[u64], second: &[u64; 10], nodes: &mut [u64]) {
     let f = flush::flush(handle(front), words, block_handle(second), nodes);
     show_flush(f, words, nodes);
 }
@@ -358,9 +373,9 @@ fn play_flush(front: &[u64; 8], words: &[u64], second: &[u64; 8], nodes: &mut [u
 fn play_pair(
     text: &[u8],
     from: usize,
-    front: &[u64; 8],
+    front: &[u64; 10],
     words: &mut [u64],
-    second: &[u64; 8],
+    second: &[u64; 10],
     nodes: &mut [u64],
 ) -> Place {
     let mut args = [0u64; 3];
@@ -381,9 +396,9 @@ fn play_pair(
 fn play_nodes(
     text: &[u8],
     from: usize,
-    front: &[u64; 8],
+    front: &[u64; 10],
     words: &mut [u64],
-    second: &[u64; 8],
+    second: &[u64; 10],
     nodes: &mut [u64],
 ) -> Place {
     let p = fill(text, from, nodes);
@@ -398,14 +413,14 @@ fn play_nodes(
 }
 
 // The rest of a flush or of a record of the pair, from the block land's numbers on.
-fn play_block(text: &[u8], from: usize, front: &[u64; 8], words: &mut [u64]) -> Place {
-    let mut second = [0u64; 8];
+fn play_block(text: &[u8], from: usize, front: &[u64; 10], words: &mut [u64]) -> Place {
+    let mut second = [0u64; 10];
     let mut nodes = [0u64; 64];
     let p = fill(text, from, &mut second);
     if !p.good {
         return p;
     }
-    let n = second[7];
+    let n = second[9];
     if 64 < n {
         return Place {
             good: false,
@@ -417,7 +432,7 @@ fn play_block(text: &[u8], from: usize, front: &[u64; 8], words: &mut [u64]) -> 
 }
 
 // The rest of a record, from its words on.
-fn play_words(text: &[u8], from: usize, front: &[u64; 8], words: &mut [u64]) -> Place {
+fn play_words(text: &[u8], from: usize, front: &[u64; 10], words: &mut [u64]) -> Place {
     let p = fill(text, from, words);
     if !p.good {
         return p;
@@ -436,13 +451,13 @@ fn play_words(text: &[u8], from: usize, front: &[u64; 8], words: &mut [u64]) -> 
 
 // One record.
 fn play(text: &[u8], from: usize) -> Place {
-    let mut front = [0u64; 8];
+    let mut front = [0u64; 10];
     let mut words = [0u64; 64];
     let p = fill(text, from, &mut front);
     if !p.good {
         return p;
     }
-    let n = front[7];
+    let n = front[9];
     if 64 < n {
         return Place {
             good: false,

@@ -16,10 +16,11 @@ use Rattle.model.specs.Lands.{land-answers, list-rules}
 use Rattle.model.proofs.Bytes.{in-yes}
 use Rattle.model.proofs.Playing.{wider}
 use Rattle.model.proofs.DemandMet.{demand-3}
+use Rattle.model.proofs.LowWaters.{low-over-closings}
 use Rattle.list_words.specs.Laying.{grain, described}
 use Rattle.list_land.specs.Layout.{base, setUp, readOf, layout}
 use Rattle.list_land.specs.Calls.{newLand, openedOf}
-use Rattle.list_land.specs.Claims.{ListDemand3, free-kept, OwnDemand3, free-word}
+use Rattle.list_land.specs.Claims.{ListDemand3, free-kept, OwnDemand3, free-word, ListLow}
 use Rattle.list_land.specs.declared.ListLand.{ListLand}
 use Rattle.list_land.proofs.Sound.{placed, fine}
 use Rattle.list_land.proofs.LayoutLaws.{reads, read-laid, list-laws}
@@ -72,3 +73,7 @@ own-host h ws ws' m = read-as (readOf h ws) refl
 pub own-demand-3 : OwnDemand3
 own-demand-3 b l a ws e cs os t =
     list-demand-3 b l a ws e cs os (wider land-answers list-rules layout free-kept own-host (openedOf b l a ws .land) ws cs os t)
+
+-- LOW WATER OVER CALLS OF ANY KIND
+pub list-low : ListLow
+list-low = low-over-closings layout (λ h rs. refl)

@@ -1,11 +1,12 @@
 -- The list land, as the laws on answers of `model` take it. Assumes nothing.
 use Prim.Native.Nat.{ℕ}
-use mathlib.Core.Bool.{cond, _&&_}
+use mathlib.Core.Bool.{Bool, cond, _&&_}
 use mathlib.Core.List.{List}
 use mathlib.Core.Option.{Option, none, some}
 use mathlib.Core.Path.{_≡_, refl}
 use lib.Dec.{eqb}
 use lib.ListN.{length}
+use Rattle.units.specs.LowWater.{soundLow}
 use Rattle.units.specs.Rules.{goodArena}
 use Rattle.units.specs.Words.{wordNumber}
 use Rattle.units.specs.declared.aims.Aim.{Aim}
@@ -16,6 +17,7 @@ use Rattle.model.specs.Marks.{Range}
 use Rattle.model.specs.inner.Picks.{here-of}
 use Rattle.model.proofs.Aiming.{pick-by}
 use Rattle.model.proofs.lands.Land.{Land, check-of}
+use Rattle.list_words.specs.Words.{soundWalk}
 use Rattle.list_words.specs.inner.Surveys.{kept-of}
 use Rattle.list_words.specs.declared.Spot.{Spot}
 use Rattle.list_words.proofs.Keeping.{SpotOf, kept-placed}
@@ -27,7 +29,7 @@ use Rattle.list_land.specs.declared.Changed.{Changed}
 use Rattle.list_land.specs.declared.Found.{Found}
 use Rattle.list_land.specs.declared.ListLand.{ListLand}
 use Rattle.list_land.specs.declared.Look.{Look}
-use Rattle.list_land.proofs.LayoutLaws.{list-laws, handle-back}
+use Rattle.list_land.proofs.LayoutLaws.{list-laws}
 use Rattle.list_land.proofs.Sound.{fine}
 
 pub is-call : (c : Call) (h : ListLand) (ws : List ℕ) → does c h ws ≡ land-call layout c h ws
@@ -37,6 +39,14 @@ is-call c h ws = refl
 pub set-up-is : (h : ListLand) (ws : List ℕ) → setUp h ws ≡ goodArena (check-of (arenaIn h)) && eqb (wordNumber (base h) (limit h)) (length ws)
 unfolding setUp
 set-up-is h ws = refl
+
+-- the walk and both counts
+abbrev pub judged : ListLand → List ℕ → Bool
+judged h ws = soundWalk (walkOf h ws) (h .ranges) (h .bytes .0)
+
+pub sound-is : (h : ListLand) (ws : List ℕ) → sound h ws ≡ judged h ws && soundLow (h .water) (h .bytes .0)
+unfolding sound
+sound-is h ws = refl
 
 pub reads-as : (h : ListLand) (ws : List ℕ) → readOf h ws ≡ reading (setUp h ws) (sound h ws) (walkOf h ws .met)
 unfolding readOf
@@ -59,7 +69,9 @@ list-land = record {
   layout = layout;
   lent = λ h ws. eqb (wordNumber (base h) (limit h)) (length ws);
   set-up = setUp;
+  judged = judged;
   sound = sound;
+  bytes = λ h. h .bytes;
   ranges = λ h ws. walkOf h ws .met;
   arena-in = arenaIn;
   bad = Look.BadSetUp;
@@ -76,6 +88,7 @@ list-land = record {
   is-call = is-call;
   laws = list-laws;
   set-up-is = set-up-is;
+  sound-is = sound-is;
   reads = reads-as;
   arena-is = λ h ws. refl;
   number-bad = refl;
@@ -85,6 +98,5 @@ list-land = record {
   looks = looks;
   aims-from = λ h x. refl;
   keeps = λ aim lo hi rs z a. placed-here rs (pick-by aim none rs) (kept-of aim rs) (kept-placed aim lo hi rs z a);
-  handle-back = λ h ws g s. handle-back h ws (walkOf h ws .met) (fine h ws g s) refl;
   words-back = λ h ws g s. lay-laid (base h) (walkOf h ws .met) ws (fine h ws g s .laid);
 }

@@ -5,12 +5,14 @@ use mathlib.Core.List.{List}
 use mathlib.Core.Path.{_≡_}
 use lib.ListN.{length}
 use borrow.Author.Tests.{eqb-true}
+use Rattle.units.specs.LowWater.{soundLow}
 use Rattle.units.specs.Rules.{arenaCheck, goodArena}
 use Rattle.units.specs.Words.{wordNumber}
 use Rattle.units.proofs.Cases.{good-case}
 use Rattle.units.proofs.Tests.{and-left, and-right}
+use Rattle.list_words.specs.Words.{soundWalk}
 use Rattle.list_edits.proofs.Sound as edits
-use Rattle.list_land.specs.Layout.{base, limit, align, setUp, sound}
+use Rattle.list_land.specs.Layout.{base, limit, align, setUp, walkOf, sound}
 use Rattle.list_land.specs.inner.Parts.{arenaIn, chainIn}
 use Rattle.list_land.specs.declared.ListLand.{ListLand}
 
@@ -30,6 +32,14 @@ placed h ws e =
 abbrev pub Fine : ListLand → List ℕ → Type 0
 Fine h ws = edits.Fine (arenaIn h) ws (chainIn h)
 
-pub fine : (h : ListLand) (ws : List ℕ) → setUp h ws ≡ true → sound h ws ≡ true → Fine h ws
+-- what soundness is made of: the walk and both counts, the mark and low water
+pub sound-walk : (h : ListLand) (ws : List ℕ) → sound h ws ≡ true → soundWalk (walkOf h ws) (h .ranges) (h .bytes .0) ≡ true
 unfolding sound
-fine h ws g s = edits.fine (arenaIn h) ws (chainIn h) (placed h ws g .ready) s
+sound-walk h ws s = and-left _ (soundLow (h .water) (h .bytes .0)) s
+
+pub sound-low : (h : ListLand) (ws : List ℕ) → sound h ws ≡ true → soundLow (h .water) (h .bytes .0) ≡ true
+unfolding sound
+sound-low h ws s = and-right (soundWalk (walkOf h ws) (h .ranges) (h .bytes .0)) _ s
+
+pub fine : (h : ListLand) (ws : List ℕ) → setUp h ws ≡ true → sound h ws ≡ true → Fine h ws
+fine h ws g s = edits.fine (arenaIn h) ws (chainIn h) (placed h ws g .ready) (sound-walk h ws s)

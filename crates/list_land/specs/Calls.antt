@@ -2,6 +2,7 @@
 use Prim.Native.Nat.{ℕ}
 use mathlib.Core.Bool.{cond}
 use mathlib.Core.List.{List}
+use Rattle.units.specs.LowWater.{unset}
 use Rattle.units.specs.Rules.{setUpNumber}
 use Rattle.units.specs.Words.{addr}
 use Rattle.units.specs.declared.Mode.{Mode}
@@ -45,9 +46,17 @@ changed d = record { land = d .handle; answer = d .out .answer; range = struct (
 abbrev pub foundOf : LandDone → Found
 foundOf d = record { land = d .handle; answer = d .out .answer; range = struct (d .out .found); old = struct (d .out .old) }
 
--- A new land has no ranges.
+-- A new land has no ranges, and its mark is not set.
 abbrev pub newLand : ℕ → ℕ → ℕ → ListLand
-newLand b l a = record { base = addr b; limit = addr l; align = record { 0 = a }; head = addr 0; ranges = 0; bytes = record { 0 = 0 } }
+newLand b l a = record {
+  base = addr b;
+  limit = addr l;
+  align = record { 0 = a };
+  head = addr 0;
+  ranges = 0;
+  bytes = record { 0 = 0 };
+  water = unset;
+}
 
 -- A handle that refuses to open has every field 0.
 unfoldable pub openedOf : ℕ → ℕ → ℕ → List ℕ → Opened

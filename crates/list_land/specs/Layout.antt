@@ -6,6 +6,7 @@ use mathlib.Core.Option.{none}
 use mathlib.Core.Path.{_≡_}
 use lib.Dec.{eqb}
 use lib.ListN.{length, getD}
+use Rattle.units.specs.LowWater.{noted, soundLow}
 use Rattle.units.specs.Rules.{arenaCheck, goodArena}
 use Rattle.units.specs.Words.{wordNumber, addr}
 use Rattle.units.specs.declared.Addr.{Addr}
@@ -39,16 +40,25 @@ setUp h ws = goodArena (arenaCheck (base h) (limit h) (align h)) && eqb (wordNum
 abbrev pub walkOf : ListLand → List ℕ → Walk
 walkOf h ws = walkFrom (base h) (limit h) (align h) ws (base h) (h .head .0)
 
+-- The walk and both counts, and the mark and low water.
 unfoldable pub sound : ListLand → List ℕ → Bool
-sound h ws = soundWalk (walkOf h ws) (h .ranges) (h .bytes .0)
+sound h ws = soundWalk (walkOf h ws) (h .ranges) (h .bytes .0) && soundLow (h .water) (h .bytes .0)
 
 -- 5, 6, or the ranges met.
 unfoldable pub readOf : ListLand → List ℕ → Reading (List Range)
 readOf h ws = reading (setUp h ws) (sound h ws) (walkOf h ws .met)
 
--- The handle with another head and other counts.
+-- The handle with another head and other counts, of which the free bytes are noted.
 abbrev pub closedWith : ListLand → Addr → ℕ → Size → ListLand
-closedWith h head n s = record { base = h .base; limit = h .limit; align = h .align; head = head; ranges = n; bytes = s }
+closedWith h head n s = record {
+  base = h .base;
+  limit = h .limit;
+  align = h .align;
+  head = head;
+  ranges = n;
+  bytes = s;
+  water = noted (h .water) (s .0);
+}
 
 -- The handle after an accepted call: head is the base of the first range, or 0; the number of ranges and of free bytes.
 abbrev pub closed : ListLand → List Range → ListLand
@@ -59,7 +69,8 @@ abbrev pub layout : LandLayout ListLand
 layout = record {
   arena = λ h ws. arenaOf h;
   read = readOf;
-  show = λ h ws. record { reads = readOf h ws; count = h .ranges; bytes = h .bytes .0 };
+  noted = λ h. h .water;
+  show = λ h ws. record { reads = readOf h ws; count = h .ranges; bytes = h .bytes .0; mark = h .water .filled; low = h .water .low .0 };
   close = closed;
   words = λ h ws rs. lay (base h) rs ws;
   host = λ h ws ws'.

@@ -15,9 +15,11 @@ use units::Aim;
 use units::Align;
 use units::Arena;
 use units::ArenaCheck;
+use units::LowWater;
 use units::Range;
 use units::SetUp;
 use units::Size;
+use units::Soundness;
 ghost use mathlib.Core.Bool.{true};
 ghost use mathlib.Core.Path.{_≡_};
 ghost use Rattle.units.specs.Rules.{goodAlign};
@@ -26,7 +28,8 @@ ghost use Rattle.list_land.specs.Layout.{setUp, closedWith};
 ghost use Rattle.list_land.specs.Calls.{changed, walked};
 ghost use Rattle.list_land.specs.inner.Parts.{arenaIn, chainIn, lookNumber, lookOf, refusedBy};
 
-// The handle of a list land: its arena, the first range's base (or 0), the number of ranges and of free bytes.
+// The handle of a list land: its arena, the first range's base (or 0), the number of ranges and of free bytes, the mark and low
+// water.
 #[repr(C)]
 pub struct ListLand {
     pub base: Addr,
@@ -35,6 +38,7 @@ pub struct ListLand {
     pub head: Addr,
     pub ranges: u64,
     pub bytes: Size,
+    pub water: LowWater,
 }
 
 // What an opening returns.
@@ -137,12 +141,16 @@ impl ListLand {
         }
     }
 
-    // The one walk of a call, for what it asks.
+    // Low water, and the one walk of a call, for what it asks.
     pub fn look(self, words: &[u64], aim: Aim) -> Look
         ensures { λ r. ⌜ r ≡ lookOf self (now (words .entry)) aim ⌝ }
     {
         let SetUp::Good = self.set_up(words) else {
             return Look::BadSetUp;
+        };
+        let water = self.water;
+        let Soundness::Sound = water.check(self.bytes) else {
+            return Look::Damaged;
         };
         let arena = self.good_arena();
         match list_words::survey(arena, words, self.chain(), arena.aim_of(aim)) {
@@ -151,10 +159,12 @@ impl ListLand {
         }
     }
 
-    // The next handle of every accepted call.
+    // The next handle of every accepted call, in which the number of free bytes is noted.
     pub fn close(mut self, head: Addr, ranges: u64, bytes: Size) -> ListLand
         ensures { λ r. ⌜ r ≡ closedWith self head ranges bytes ⌝ }
     {
+        let water = self.water;
+        self.water = water.noted(bytes);
         self.head = head;
         self.ranges = ranges;
         self.bytes = bytes;

@@ -3,6 +3,7 @@ use crate::ListLand;
 use crate::Opened;
 use units::Addr;
 use units::Align;
+use units::LowWater;
 use units::SetUp;
 use units::Size;
 ghost use mathlib.Core.Path.{_≡_};
@@ -19,6 +20,7 @@ fn new_land(base: Addr, limit: Addr, align: Align) -> ListLand
         head: Addr::new(0),
         ranges: 0,
         bytes: Size::new(0),
+        water: LowWater::unset(),
     }
 }
 

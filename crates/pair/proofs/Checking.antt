@@ -7,6 +7,7 @@ use native.Mathlib.Omega.{arith}
 use lib.ListN.{length}
 use Rattle.units.specs.Rules.{arenaCheck, goodAlign, goodArena}
 use Rattle.units.specs.inner.Parts.{setUpOf, soundnessOf}
+use Rattle.units.specs.LowWater.{soundLow}
 use Rattle.units.specs.inner.Aims.{aimOf}
 use Rattle.units.specs.Words.{rangeOf}
 use Rattle.units.specs.declared.Range as ranges
@@ -15,7 +16,7 @@ use Rattle.units.specs.declared.rules.Arena as units
 use Rattle.units.specs.declared.rules.SetUp.{SetUp}
 use Rattle.units.specs.declared.rules.Soundness.{Soundness}
 use Rattle.units.proofs.Cases.{set-up-true, set-up-false, sound-true, sound-false}
-use Rattle.units.proofs.Tests.{by, and-left, and-right}
+use Rattle.units.proofs.Tests.{by, and-left, and-right, and-second}
 use Rattle.model.specs.Marks.{Range}
 use Rattle.list_words.specs.inner.Surveys as list-words
 use Rattle.list_words.specs.inner.Surveys.{kept-of}
@@ -23,6 +24,7 @@ use Rattle.list_words.specs.declared.Chain.{Chain}
 use Rattle.list_words.specs.declared.Spot.{Spot}
 use Rattle.list_words.specs.declared.Verdict.{Verdict}
 use Rattle.list_land.specs.Layout as list
+use Rattle.list_land.proofs.Land as list-land
 use Rattle.list_land.specs.inner.Parts as list-parts
 use Rattle.list_land.proofs.Sound as list-sound
 use Rattle.block_words.specs.inner.Surveys.{entryOf, Rising}
@@ -31,6 +33,7 @@ use Rattle.block_words.specs.Words.{pairs, soundTable}
 use Rattle.block_words.specs.declared.Entry.{Entry}
 use Rattle.block_words.proofs.Surveying.{sound-rising}
 use Rattle.block_land.specs.Layout as block
+use Rattle.block_land.proofs.Land as block-land
 use Rattle.flush.specs.Flush.{sameArena}
 use Rattle.flush.specs.Flush as flush-check
 use Rattle.flush.specs.declared.FlushCheck.{FlushCheck}
@@ -38,7 +41,7 @@ use Rattle.flush.proofs.FlushKeeps.{OneArena, one-arena}
 use Rattle.pair_model.specs.PairLayouts.{meet}
 use Rattle.pair_words.specs.inner.Besides.{surveyBeside}
 use Rattle.pair.specs.Calls.{setUp, sound}
-use Rattle.pair.specs.inner.Parts.{aimIn, checkOf, refusedBy, foundNone}
+use Rattle.pair.specs.inner.Parts.{aimIn, soundLows, checkOf, refusedBy, foundNone}
 use Rattle.pair.specs.declared.Pair.{Pair}
 use Rattle.pair.specs.declared.PairCheck.{PairCheck}
 
@@ -109,6 +112,31 @@ pub check-up : (p : Pair) (ws vs : List ℕ) (aim : Aim) (r : SetUp) → r ≡ s
 unfolding checkOf
 check-up p ws vs aim r er f = rw (set-up-false (setUp p ws vs) r er f)
 
+-- low water of both lands
+abbrev list-low : Pair → Bool
+list-low p = soundLow (p .list .water) (p .list .bytes .0)
+
+abbrev block-low : Pair → Bool
+block-low p = soundLow (p .block .water) (p .block .bytes .0)
+
+module _ (p : Pair) (z : Soundness) (ez : z ≡ soundnessOf (list-low p)) where
+  pub lows-list : z ≡ Soundness.Damaged → Soundness.Damaged ≡ soundnessOf (soundLows p)
+  lows-list f = rw (sound-false (list-low p) z ez f)
+
+  pub lows-block : z ≡ Soundness.Sound → (y : Soundness) → y ≡ soundnessOf (block-low p) → y ≡ soundnessOf (soundLows p)
+  lows-block f y ey = rw (sound-true (list-low p) z ez f) ey
+
+-- the low water of a land that is not sound
+pub check-low : (p : Pair) (ws vs : List ℕ) (aim : Aim) → setUp p ws vs ≡ true → (z : Soundness) → z ≡ soundnessOf (soundLows p) → z ≡ Soundness.Damaged →
+    PairCheck.Damaged ≡ checkOf p ws vs aim
+unfolding checkOf
+check-low p ws vs aim good z ez f =
+    by (list-low p)
+    (λ t. let u : block-low p ≡ false = and-second (list-low p) (block-low p) (sound-false (soundLows p) z ez f) t in
+    let v : block.sound (p .block) vs ≡ false = block-land.sound-is (p .block) vs ∙ rw (u, and-false (block-land.judged (p .block) vs)) in
+    rw (good, v, and-false (list.sound (p .list) ws)))
+    (λ t. let v : list.sound (p .list) ws ≡ false = list-land.sound-is (p .list) ws ∙ rw (t, and-false (list-land.judged (p .list) ws)) in rw (good, v))
+
 -- the look of a call whose set-up is good
 module _ (p : Pair) (ws vs : List ℕ) (aim : Aim) (good : setUp p ws vs ≡ true) where
   at : list-sound.SetUpFacts (p .list) (length ws)
@@ -133,16 +161,16 @@ module _ (p : Pair) (ws vs : List ℕ) (aim : Aim) (good : setUp p ws vs ≡ tru
     abbrev table : Bool
     table = soundTable (a .base .0) (a .limit .0) (a .align .0) vs n (p .block .bytes .0)
 
-    is-table : table ≡ block.sound (p .block) vs
-    unfolding block.sound
+    is-table : table ≡ block-land.judged (p .block) vs
     is-table = let o = same-up p ws vs good in rw (ea, o .base, o .limit, o .align)
 
     module _ (o : Soundness) (eo : o ≡ soundnessOf table) where
       pub check-table : o ≡ Soundness.Damaged → PairCheck.Damaged ≡ checkOf p ws vs aim
       unfolding checkOf
       check-table g =
-          let t : block.sound (p .block) vs ≡ false = sym is-table ∙ sound-false table o eo g in
-          rw (good, t, and-false (list.sound (p .list) ws))
+          let t : block-land.judged (p .block) vs ≡ false = sym is-table ∙ sound-false table o eo g in
+          let u : block.sound (p .block) vs ≡ false = block-land.sound-is (p .block) vs ∙ rw t in
+          rw (good, u, and-false (list.sound (p .list) ws))
 
       module _ (g : o ≡ Soundness.Sound) where
         table-sound : table ≡ true
@@ -162,32 +190,35 @@ module _ (p : Pair) (ws vs : List ℕ) (aim : Aim) (good : setUp p ws vs ≡ tru
           abbrev overlap : Bool
           overlap = meet met (block.tableOf (p .block) vs)
 
-          found : v ≡ cond (list.sound (p .list) ws && not overlap) (Verdict.Sound (kept-of (aimIn p aim) met)) Verdict.Damaged
-          unfolding surveyBeside list.sound
-          found = ev ∙ ap (surveyBeside b ws h vs n) is-aim ∙ ap₂ (λ (y : units.Arena) (z : Chain). surveyBeside y ws z vs n (aimIn p aim)) (eb ∙ ea) eh
-
-          block-sound : block.sound (p .block) vs ≡ true
-          block-sound = sym is-table ∙ table-sound
-
           abbrev both : Bool
-          both = list.sound (p .list) ws && not overlap
+          both = list-land.judged (p .list) ws && not overlap
 
-          as-sound : sound p ws vs ≡ both
-          as-sound = rw block-sound
+          found : v ≡ cond both (Verdict.Sound (kept-of (aimIn p aim) met)) Verdict.Damaged
+          unfolding surveyBeside
+          found = ev ∙ ap (surveyBeside b ws h vs n) is-aim ∙ ap₂ (λ (y : units.Arena) (z : Chain). surveyBeside y ws z vs n (aimIn p aim)) (eb ∙ ea) eh
 
           pub check-walk : v ≡ Verdict.Damaged → PairCheck.Damaged ≡ checkOf p ws vs aim
           unfolding checkOf
           check-walk d =
-              by both
-              (λ t. let q : v ≡ Verdict.Sound (kept-of (aimIn p aim) met) = rw t at found in let z : _≡_ {A = ℕ} 0 1 = cc in absurd (omega arith))
-              (λ t. rw (good, as-sound, t))
+              by (list-land.judged (p .list) ws)
+              (λ t. by overlap
+              (λ u. rw (good, u, and-false (block.sound (p .block) vs), and-false (list.sound (p .list) ws)))
+              (λ u. let q : v ≡ Verdict.Sound (kept-of (aimIn p aim) met) = rw (t, u) at found in let z : _≡_ {A = ℕ} 0 1 = cc in absurd (omega arith)))
+              (λ t. let u : list.sound (p .list) ws ≡ false = list-land.sound-is (p .list) ws ∙ rw t in rw (good, u))
 
-          pub check-good : (s : Spot) → v ≡ Verdict.Sound s → (e : Entry) → e ≡ entryOf x (pairs vs n) → PairCheck.Good s e ≡ checkOf p ws vs aim
-          unfolding checkOf
-          check-good s d e ee =
-              by both
-              (λ t. let q : v ≡ Verdict.Sound (kept-of (aimIn p aim) met) = rw t at found in
-              let w : s ≡ kept-of (aimIn p aim) met = cc in rw (good, as-sound, t) (ap₂ PairCheck.Good w (ee ∙ ap (λ (y : Aim). entryOf y (pairs vs n)) is-aim)))
-              (λ t. let q : v ≡ Verdict.Damaged = rw t at found in let z : _≡_ {A = ℕ} 0 1 = cc in absurd (omega arith))
+          module _ (lows : soundLows p ≡ true) where
+            as-sound : sound p ws vs ≡ both
+            as-sound =
+                let t : list.sound (p .list) ws ≡ list-land.judged (p .list) ws =
+                list-land.sound-is (p .list) ws ∙ rw (and-left (list-low p) (block-low p) lows, and-true (list-land.judged (p .list) ws)) in
+                let u : block.sound (p .block) vs ≡ true =
+                block-land.sound-is (p .block) vs ∙ rw (and-right (list-low p) (block-low p) lows, ← is-table, table-sound) in
+                rw (t, u)
 
-pub ruleset checks = (check-align, check-arena, check-words, check-table, check-rising, check-walk, check-good)
+            pub check-good : (s : Spot) → v ≡ Verdict.Sound s → (e : Entry) → e ≡ entryOf x (pairs vs n) → PairCheck.Good s e ≡ checkOf p ws vs aim
+            unfolding checkOf
+            check-good s d e ee =
+                by both
+                (λ t. let q : v ≡ Verdict.Sound (kept-of (aimIn p aim) met) = rw t at found in
+                let w : s ≡ kept-of (aimIn p aim) met = cc in rw (good, as-sound, t) (ap₂ PairCheck.Good w (ee ∙ ap (λ (y : Aim). entryOf y (pairs vs n)) is-aim)))
+                (λ t. let q : v ≡ Verdict.Damaged = rw t at found in let z : _≡_ {A = ℕ} 0 1 = cc in absurd (omega arith))

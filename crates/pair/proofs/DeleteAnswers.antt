@@ -10,7 +10,7 @@ use Rattle.units.specs.declared.Size.{Size}
 use Rattle.model.specs.Calls.{good-range, accepted}
 use Rattle.model.specs.Marks.{Range, rng, struct}
 use Rattle.model.specs.inner.Lists.{holds, holder}
-use Rattle.model.proofs.lands.Looking.{kept-reach}
+use Rattle.model.proofs.lands.Looking.{handle-back, kept-reach}
 use Rattle.model.proofs.Totals.{total-delete}
 use Rattle.list_words.specs.Laying.{lay}
 use Rattle.list_words.specs.declared.Spot.{Spot}
@@ -19,7 +19,6 @@ use Rattle.list_land.specs.Layout as list
 use Rattle.list_land.specs.inner.Parts.{Looked, reachLimit}
 use Rattle.list_land.specs.declared.ListLand.{ListLand}
 use Rattle.list_land.proofs.Land.{list-land}
-use Rattle.list_land.proofs.LayoutLaws as list-laws
 use Rattle.block_words.specs.Words.{fill}
 use Rattle.block_words.specs.inner.Surveys as places
 use Rattle.block_words.specs.declared.Entry.{Entry}
@@ -141,11 +140,12 @@ module _ (p : Pair) (ws vs : List ℕ) (y : units.Range) (s : Spot) (e : Entry) 
             let q = sym (d .0) ∙ f in
             let o = cut-done vs (p .block .ranges) y x m q in
             let lf = list-fine p ws vs y s e (u .asked) in
+            let seen = list-looked p ws vs (reachLimit y) s e (u .asked .checked) in
             let c = not-false (holds b l qs) (o .good) in
             let bf = block-fine p ws vs y s e (u .asked) in
             let left = total-delete b l (block.base (p .block)) (block.limit (p .block)) qs (order p ws vs y s e (u .asked)) (bf .apart) c in
             let bytes = bf .bytes in
             does (u .asked) (holder b l qs) rs (tableLess (p .block) vs y) (rw (u .asked .good, u .unlisted, c, o .fits))
-            x (o .range) (p .list) (sym (list-laws.handle-back (p .list) ws rs lf refl))
+            x (o .range) (p .list) (sym (handle-back list-land (p .list) ws (seen .good) (seen .whole)))
             h (eh ∙ block-laws.closed-as (p .block) (tableLess (p .block) vs y) m t (o .count) (omega arith))
             ws vs' (sym (lay-laid (list.base (p .list)) rs ws (lf .laid))) (d .1 ∙ cut-words vs (p .block .ranges) y (TableEdited.Done x m) q)

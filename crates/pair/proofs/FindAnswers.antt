@@ -21,6 +21,7 @@ use Rattle.model.specs.Marks.{Range}
 use Rattle.model.specs.inner.Steps.{list-ops, choose, step}
 use Rattle.model.proofs.Checks.{size-bad, size-good}
 use Rattle.model.proofs.lands.FindAnswers.{chosen, chosen-above, chosen-order}
+use Rattle.model.proofs.lands.Looking.{handle-back}
 use Rattle.model.proofs.Requests.{size-refused}
 use Rattle.list_words.specs.declared.Spot.{Spot}
 use Rattle.list_land.specs.Calls as list-calls
@@ -120,7 +121,7 @@ module _ (p : Pair) (ws vs : List ℕ) (w : Which) (n : Size) (mode : Mode) (s :
       list-is =
           let u = find-accepts list-land (p .list) ws w n mode s list-chosen in
           let d = sym (find-done list-land (p .list) ws w n mode s list-chosen) in
-          let b = block-land .handle-back (p .block) vs (in-block-kept .good) (in-block-kept .whole) in
+          let b = handle-back block-land (p .block) vs (in-block-kept .good) (in-block-kept .whole) in
           let v = block-land .words-back (p .block) vs (in-block-kept .good) (in-block-kept .whole) in
           is-found p ws vs w (n .0) mode
           ∙ accepts p ws vs (findAim p w n) s e k (find w (n .0) mode) (u .part) (u .old) (u .next) qs
@@ -143,7 +144,7 @@ module _ (p : Pair) (ws vs : List ℕ) (w : Which) (n : Size) (mode : Mode) (s :
       block-is =
           let u = find-accepts block-land (p .block) vs w n mode e block-chosen in
           let d = sym (find-done block-land (p .block) vs w n mode e block-chosen) in
-          let b = list-land .handle-back (p .list) ws (in-list-kept .good) (in-list-kept .whole) in
+          let b = handle-back list-land (p .list) ws (in-list-kept .good) (in-list-kept .whole) in
           let v = list-land .words-back (p .list) ws (in-list-kept .good) (in-list-kept .whole) in
           is-found p ws vs w (n .0) mode
           ∙ accepts p ws vs (findAim p w n) s e k (find w (n .0) mode) (u .part) (u .old) rs (u .next)

@@ -41,8 +41,8 @@ use Rattle.pair.proofs.Inserting.{is-insert, Inserts, table-asks}
 
 -- a sound list ends clean
 sound-clean : (h : ListLand) (ws : List ℕ) → list.sound h ws ≡ true → isClean (list.walkOf h ws .end) ≡ true
-unfolding list.sound soundWalk
-sound-clean h ws s = and-left _ _ s
+unfolding soundWalk
+sound-clean h ws s = and-left _ _ (list-sound.sound-walk h ws s)
 
 module _ (p : Pair) (ws vs : List ℕ) (y : units.Range) (s : Spot) (e : Entry) (k : Bare p ws vs y s e) where
   abbrev b : ℕ

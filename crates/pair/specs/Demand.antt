@@ -5,6 +5,8 @@ use mathlib.Core.List.{List, []}
 use mathlib.Core.Option.{some}
 use mathlib.Core.Path.{_≡_}
 use lib.ListN.{length, getD}
+use Rattle.units.specs.LowWater.{unset}
+use Rattle.units.specs.declared.low_water.LowWater.{LowWater}
 use Rattle.model.specs.Marks.{marksOf}
 use Rattle.model.specs.Calls.{Arena, Outcome}
 use Rattle.model.specs.Layouts.{Layout, with-host}
@@ -22,17 +24,17 @@ use Rattle.pair_model.specs.PairLayouts.{pair-rules, pair-layout}
 use Rattle.pair_model.specs.PairDemand.{PairClaims}
 
 -- From the handles of accepted openings of both lands on one arena, arena words of any value, node words as the opening left them and
--- nothing marked, over every list of calls, whatever the host writes between them: every answer and range is the
+-- nothing marked and no low water, over every list of calls, whatever the host writes between them: every answer and range is the
 -- reference model's; 3, 5 and 6 are never answered; no byte is free in both lands; a byte is free in either exactly if the last accepted
--- call that touched it put it in; the free bytes are those put in less those taken out; and a find answers 2 exactly if neither land
--- has an isolated range that long.
-abbrev pub Demand3For : Layout Arena (Both ListLand BlockLand) (Both (List ℕ) (List ℕ)) Sets (Both Shown Shown) → Type 0
+-- call that touched it put it in; the free bytes are those put in less those taken out; a find answers 2 exactly if neither land has
+-- an isolated range that long; and each land's low water is the least of its free bytes after the accepted calls that count.
+abbrev pub Demand3For : Layout Arena (Both ListLand BlockLand) (Both (List ℕ) (List ℕ)) Sets (Both LowWater LowWater) (Both Shown Shown) → Type 0
 Demand3For R =
     (b l a : ℕ) (ws vs : List ℕ) → list-calls.openedOf b l a ws .answer ≡ 0 → block-calls.openedOf b l a vs .answer ≡ 0 →
     (cs : List PairCall) (os : List (Seen Outcome (Both Shown Shown))) →
     History land-answers pair-rules R
     (both (list-calls.openedOf b l a ws .land) (block-calls.openedOf b l a vs .land)) (both ws (block-calls.openedWords b l a vs)) cs os →
-    PairClaims (record { base = b; limit = l; align = a; room = some (capacity vs) }) (both [] []) cs os
+    PairClaims (record { base = b; limit = l; align = a; room = some (capacity vs) }) (both [] []) (both unset unset) cs os
 
 -- Here the host must leave, of the arena's words, those of the list's present descriptors, and of node space every pair word; it may
 -- write every other word, also one that is free in the block land.

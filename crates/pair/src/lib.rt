@@ -20,9 +20,9 @@ use units::Range;
 use units::SetUp;
 use units::Soundness;
 ghost use mathlib.Core.Path.{_≡_};
-ghost use Rattle.units.specs.inner.Parts.{setUpOf};
+ghost use Rattle.units.specs.inner.Parts.{setUpOf, soundnessOf};
 ghost use Rattle.pair.specs.Calls.{setUp};
-ghost use Rattle.pair.specs.inner.Parts.{checkOf, refusedBy, foundNone};
+ghost use Rattle.pair.specs.inner.Parts.{soundLows, checkOf, refusedBy, foundNone};
 
 // The handles of both lands.
 #[repr(C)]
@@ -92,8 +92,22 @@ impl Pair {
         block_land::lent(nodes)
     }
 
-    // The checks of a call: the set-up, a sound table, then in one walk a sound list with no byte that is in the table too.
-    // What the call asks for is kept of both.
+    // Whether each handle's mark and low water may be those of a sound land.
+    fn low_waters(self) -> Soundness
+        ensures { λ r. ⌜ r ≡ soundnessOf (soundLows self) ⌝ }
+    {
+        let list = self.list;
+        let block = self.block;
+        let listed = list.water;
+        let tabled = block.water;
+        let Soundness::Sound = listed.check(list.bytes) else {
+            return Soundness::Damaged;
+        };
+        tabled.check(block.bytes)
+    }
+
+    // The checks of a call: the set-up, a sound table, then in one walk a sound list with no byte that is in the table too, and low
+    // water, last: tested before the walk it costs more at every range. What the call asks for is kept of both.
     pub fn check(self, words: &[u64], nodes: &[u64], aim: Aim) -> PairCheck
         ensures { λ r. ⌜ r ≡ checkOf self (now (words .entry)) (now (nodes .entry)) aim ⌝ }
     {
@@ -111,6 +125,9 @@ impl Pair {
         let arena = arena.divided();
         let aim = arena.aim_of(aim);
         let Verdict::Sound(spot) = walks::survey(arena, words, list.chain(), nodes, n, aim) else {
+            return PairCheck::Damaged;
+        };
+        let Soundness::Sound = self.low_waters() else {
             return PairCheck::Damaged;
         };
         PairCheck::Good(spot, seeks::entry(nodes, n, aim))

@@ -1,5 +1,6 @@
 -- The twelve cases hold, by computation. Assumes nothing.
 use mathlib.Core.Path.{refl}
+use Rattle.units.specs.LowWater.{soundLow}
 use Rattle.units.specs.Rules.{goodAlign, arenaCheck, rangeCheck, largestCheck, sizeCheck}
 use Rattle.units.specs.Words.{mayBegin, mayEnd}
 use Rattle.list_words.specs.Words.{rangeAt, walkFor, walkFrom, soundWalk}
@@ -11,7 +12,7 @@ use Rattle.block_land.specs.Calls as block
 use Rattle.sessions.specs.Sessions.{twelve, AllHold}
 
 pub twelve-hold : AllHold twelve
-unfolding goodAlign arenaCheck rangeCheck largestCheck sizeCheck mayBegin mayEnd rangeAt walkFor walkFrom soundWalk soundTable
+unfolding goodAlign arenaCheck rangeCheck largestCheck sizeCheck mayBegin mayEnd rangeAt walkFor walkFrom soundWalk soundTable soundLow
     list-layout.setUp list-layout.sound list-layout.readOf list.does list.openedOf
     block-layout.setUp block-layout.sound block-layout.readOf block.does block.openedOf block.openedWords
 twelve-hold = (

@@ -5,11 +5,12 @@ use mathlib.Core.Path.{_≡_}
 use Rattle.units.specs.Words.{rangeOf}
 use Rattle.units.specs.declared.Mode.{Mode}
 use Rattle.units.specs.declared.Which.{Which}
+use Rattle.units.specs.LowWater.{lowWater}
 use Rattle.model.specs.Marks.{rng, marksOf}
 use Rattle.model.specs.Calls.{Call, insert, delete, find, walk, Outcome, refused, accepted}
 use Rattle.model.specs.Layouts.{Done}
 use Rattle.model.specs.Histories.{Seen, expected}
-use Rattle.model.specs.Lands.{ranges-in, Shown, reference-rules, LandLayout}
+use Rattle.model.specs.Lands.{ranges-in, Shown, land-answers, reference-rules, LandLayout}
 use Rattle.list_land.specs.Calls as list
 use Rattle.list_land.specs.Layout as list-layout
 use Rattle.list_land.specs.declared.ListLand.{ListLand}
@@ -64,7 +65,9 @@ outs [] = []
 outs (o ∷ os) = o .out ∷ outs os
 
 abbrev by-reference : {H : Type 0} → LandLayout H → Session H → List Outcome
-by-reference R s = outs (expected reference-rules (R .arena (s .handle) (s .words)) (calls (s .cases)) (marksOf (ranges-in (R .read (s .handle) (s .words)))))
+by-reference R s =
+    outs (expected land-answers reference-rules (R .arena (s .handle) (s .words)) (calls (s .cases))
+    (marksOf (ranges-in (R .read (s .handle) (s .words)))) (R .noted (s .handle)))
 
 -- The public calls and the reference model both end as the session says.
 abbrev Holds : AnySession → Type 0
@@ -76,23 +79,26 @@ AllHold [] = Unit {0}
 AllHold (s ∷ ss) = Holds s × AllHold ss
 
 -- Arena [4096, 4160), alignment 8.
-abbrev list-land : ℕ → ℕ → ℕ → ListLand
-list-land head ranges bytes = record {
+-- With a head, the number of ranges and of free bytes, and low water.
+abbrev list-land : ℕ → ℕ → ℕ → ℕ → ListLand
+list-land head ranges bytes low = record {
   base = record { 0 = 4096 };
   limit = record { 0 = 4160 };
   align = record { 0 = 8 };
   head = record { 0 = head };
   ranges = ranges;
   bytes = record { 0 = bytes };
+  water = lowWater 1 low;
 }
 
-abbrev block-land : ℕ → ℕ → BlockLand
-block-land ranges bytes = record {
+abbrev block-land : ℕ → ℕ → ℕ → BlockLand
+block-land ranges bytes low = record {
   base = record { 0 = 4096 };
   limit = record { 0 = 4160 };
   align = record { 0 = 8 };
   ranges = ranges;
   bytes = record { 0 = bytes };
+  water = lowWater 1 low;
 }
 
 abbrev words-8 : ℕ → ℕ → ℕ → ℕ → List ℕ
@@ -115,14 +121,14 @@ twelve =
       handle = list.openedOf 4096 4160 8 (words-8 0 0 0 0) .land;
       words = words-8 0 0 0 0;
       cases =
-          ends (insert 4096 4112) (gives 4096 4112) (list-land 4096 1 16) (words-8 0 4112 0 0)
-          ∷ ends (insert 4120 4128) (gives 4120 4128) (list-land 4096 2 24) (words-8 4120 4112 0 1)
-          ∷ ends (insert 4112 4120) (gives 4096 4128) (list-land 4096 1 32) (words-8 0 4128 0 1)
-          ∷ ends (insert 4104 4136) (refused 1) (list-land 4096 1 32) (words-8 0 4128 0 1)
-          ∷ ends (delete 4104 4112) (gives 4096 4128) (list-land 4096 2 24) (words-8 4113 4128 0 4128)
-          ∷ ends (find Which.First 16 Mode.Low) (twice 4112 4128) (list-land 4096 1 8) (words-8 1 4128 0 4128)
-          ∷ ends (find Which.Largest 0 Mode.None) (twice 4096 4104) (list-land 4096 1 8) (words-8 1 4128 0 4128)
-          ∷ ends (find Which.First 16 Mode.None) (refused 2) (list-land 4096 1 8) (words-8 1 4128 0 4128)
+          ends (insert 4096 4112) (gives 4096 4112) (list-land 4096 1 16 16) (words-8 0 4112 0 0)
+          ∷ ends (insert 4120 4128) (gives 4120 4128) (list-land 4096 2 24 16) (words-8 4120 4112 0 1)
+          ∷ ends (insert 4112 4120) (gives 4096 4128) (list-land 4096 1 32 16) (words-8 0 4128 0 1)
+          ∷ ends (insert 4104 4136) (refused 1) (list-land 4096 1 32 16) (words-8 0 4128 0 1)
+          ∷ ends (delete 4104 4112) (gives 4096 4128) (list-land 4096 2 24 16) (words-8 4113 4128 0 4128)
+          ∷ ends (find Which.First 16 Mode.Low) (twice 4112 4128) (list-land 4096 1 8 8) (words-8 1 4128 0 4128)
+          ∷ ends (find Which.Largest 0 Mode.None) (twice 4096 4104) (list-land 4096 1 8 8) (words-8 1 4128 0 4128)
+          ∷ ends (find Which.First 16 Mode.None) (refused 2) (list-land 4096 1 8 8) (words-8 1 4128 0 4128)
           ∷ [];
     })
     -- block land, capacity 1: cases 9 and 10
@@ -130,21 +136,21 @@ twelve =
       handle = block.openedOf 4096 4160 8 (7 ∷ 7 ∷ []) .land;
       words = block.openedWords 4096 4160 8 (7 ∷ 7 ∷ []);
       cases =
-          ends (insert 4096 4104) (gives 4096 4104) (block-land 1 8) (4096 ∷ 4104 ∷ [])
-          ∷ ends (insert 4112 4120) (refused 3) (block-land 1 8) (4096 ∷ 4104 ∷ [])
-          ∷ ends (insert 4104 4112) (gives 4096 4112) (block-land 1 16) (4096 ∷ 4112 ∷ [])
+          ends (insert 4096 4104) (gives 4096 4104) (block-land 1 8 8) (4096 ∷ 4104 ∷ [])
+          ∷ ends (insert 4112 4120) (refused 3) (block-land 1 8 8) (4096 ∷ 4104 ∷ [])
+          ∷ ends (insert 4104 4112) (gives 4096 4112) (block-land 1 16 8) (4096 ∷ 4112 ∷ [])
           ∷ [];
     })
     -- holding only [4096, 4120): case 11
     ∷ block-session (record {
-      handle = block-land 1 24;
+      handle = block-land 1 24 24;
       words = 4096 ∷ 4120 ∷ [];
-      cases = ends (delete 4104 4112) (refused 3) (block-land 1 24) (4096 ∷ 4120 ∷ []) ∷ [];
+      cases = ends (delete 4104 4112) (refused 3) (block-land 1 24 24) (4096 ∷ 4120 ∷ []) ∷ [];
     })
     -- and case 12
     ∷ block-session (record {
-      handle = block-land 1 24;
+      handle = block-land 1 24 24;
       words = 4096 ∷ 4120 ∷ [];
-      cases = ends (delete 4096 4104) (gives 4096 4120) (block-land 1 16) (4104 ∷ 4120 ∷ []) ∷ [];
+      cases = ends (delete 4096 4104) (gives 4096 4120) (block-land 1 16 16) (4104 ∷ 4120 ∷ []) ∷ [];
     })
     ∷ []

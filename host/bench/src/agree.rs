@@ -7,11 +7,15 @@ use crate::workload::*;
 /// A name, and what is done to a sound land.
 type Damage<L> = (&'static str, fn(&mut L, &mut Vec<u64>));
 
-const LIST_DAMAGES: [Damage<ListLand>; 11] = [
+const LIST_DAMAGES: [Damage<ListLand>; 15] = [
     ("a range counted too many", |land, _| land.ranges += 1),
     ("a range counted too few", |land, _| land.ranges -= 1),
     ("eight bytes too many", |land, _| land.bytes += 8),
-    ("eight bytes too few", |land, _| land.bytes -= 8),
+    ("eight bytes too few", |land, _| (land.bytes, land.low) = (land.bytes - 8, land.low - 8)),
+    ("a mark of 2", |land, _| land.filled = 2),
+    ("a mark unset", |land, _| land.filled = 0),
+    ("a mark and low water unset", |land, _| (land.filled, land.low) = (0, 0)),
+    ("low water above the free bytes", |land, _| land.low = land.bytes + 1),
     ("a head outside the arena", |land, _| land.head = land.limit),
     ("a ragged head", |land, _| land.head += 4),
     ("a flipped tag", |land, words| words[word_at(land.head)] ^= 1),
@@ -21,12 +25,16 @@ const LIST_DAMAGES: [Damage<ListLand>; 11] = [
     ("a ragged limit", |land, words| words[word_at(land.head) + 1] -= 4),
 ];
 
-const BLOCK_DAMAGES: [Damage<BlockLand>; 12] = [
+const BLOCK_DAMAGES: [Damage<BlockLand>; 16] = [
     ("a range counted too many", |land, _| land.ranges += 1),
     ("a range counted too few", |land, _| land.ranges -= 1),
     ("more ranges than the capacity", |land, words| land.ranges = words.len() as u64 / 2 + 1),
     ("eight bytes too many", |land, _| land.bytes += 8),
-    ("eight bytes too few", |land, _| land.bytes -= 8),
+    ("eight bytes too few", |land, _| (land.bytes, land.low) = (land.bytes - 8, land.low - 8)),
+    ("a mark of 2", |land, _| land.filled = 2),
+    ("a mark unset", |land, _| land.filled = 0),
+    ("a mark and low water unset", |land, _| (land.filled, land.low) = (0, 0)),
+    ("low water above the free bytes", |land, _| land.low = land.bytes + 1),
     ("a word behind the ranges", |land, words| words[2 * land.ranges as usize] = 1),
     ("the last word", |_, words| *words.last_mut().expect("not empty") = 1),
     ("an empty pair", |_, words| words[5] = words[4]),
@@ -137,10 +145,35 @@ fn empty_answers(base: u64, limit: u64, align: u64, answer: u64) {
     Four::new(Pair { list, block }, [vec![], vec![]]).must_be_refused("an arena", answer);
 }
 
+/// The handles as they are opened.
 fn empty_lands(base: u64, limit: u64, align: u64) -> (ListLand, BlockLand) {
-    let list = ListLand { base, limit, align, head: 0, ranges: 0, bytes: 0 };
-    let block = BlockLand { base, limit, align, ranges: 0, bytes: 0 };
+    let list = ListLand { base, limit, align, ..ListLand::default() };
+    let block = BlockLand { base, limit, align, ..BlockLand::default() };
     (list, block)
+}
+
+/// Lands with no ranges. With low water 0 both marks are sound: after an insert low water is its bytes where the mark was 0,
+/// and still 0 where it was 1. Whatever else the two fields are: 6.
+pub fn on_marks() {
+    let (words, nodes) = (vec![0; 8], vec![0; 4]);
+    let insert = Change { insert: true, range: Range { base: BASE, limit: BASE + 16 } };
+    let (list, block) = empty_lands(BASE, BASE + 64, ALIGN);
+    for (filled, after) in [(0, (1, 16)), (1, (1, 0))] {
+        let (list, block) = (ListLand { filled, ..list }, BlockLand { filled, ..block });
+        let listed = Four::new(list, [words.clone()]).change(insert).land;
+        let tabled = Four::new(block, [nodes.clone()]).change(insert).land;
+        let pair = Four::new(Pair { list, block }, [words.clone(), nodes.clone()]).change(insert).land;
+        let noted = [(listed.filled, listed.low), (tabled.filled, tabled.low), (pair.block.filled, pair.block.low)];
+        assert_eq!((noted, pair.list), ([after; 3], list), "marks after a first insert");
+    }
+    for (filled, low) in [(0, 8), (0, u64::MAX), (1, 8), (2, 0), (u64::MAX, 0)] {
+        let (bad_list, bad_block) = (ListLand { filled, low, ..list }, BlockLand { filled, low, ..block });
+        Four::new(bad_list, [words.clone()]).must_be_refused("a mark", ANSWER_DAMAGED);
+        Four::new(bad_block, [nodes.clone()]).must_be_refused("a mark", ANSWER_DAMAGED);
+        for pair in [Pair { list: bad_list, block }, Pair { list, block: bad_block }] {
+            Four::new(pair, [words.clone(), nodes.clone()]).must_be_refused("a mark", ANSWER_DAMAGED);
+        }
+    }
 }
 
 /// Each arena rule and each lent length that a set-up can break: 5.
@@ -181,14 +214,14 @@ pub fn on_random(calls: usize) {
     let random = &mut Random::new(7);
     let mut chequer = Chequer::new(8, Filling::Roomy, random);
     let (land, memory) = ListLand::holding(&chequer);
-    let seen = random_on(land, memory, chequer.arena, calls, |land, _, random| list_field(land, random));
+    let seen = random_on(land, memory, chequer.arena, calls, spoil_list);
     assert_eq!(seen, [true, true, true, false, true, true, true, false], "answers seen from a list land");
 
     // Room for one range more, and an odd word.
     chequer.capacity = chequer.ranges.len() + 1;
     let (land, [mut nodes]) = BlockLand::holding(&chequer);
     nodes.push(0);
-    let seen = random_on(land, [nodes], chequer.arena, calls, |land, _, random| block_field(land, random));
+    let seen = random_on(land, [nodes], chequer.arena, calls, spoil_block);
     assert_eq!(seen, [true, true, true, true, true, true, true, false], "answers seen from a block land");
 
     assert_eq!(random_pairs(calls), [true, true, true, false, true, true, true, true], "answers seen from a pair");
@@ -209,31 +242,59 @@ fn random_pairs(calls: usize) -> [bool; 8] {
 }
 
 fn list_field(land: &mut ListLand, random: &mut Random) {
-    match random.below(6) {
+    match random.below(8) {
         0 => land.base = land.base.wrapping_add(any_step(random)),
         1 => land.limit = land.limit.wrapping_add(any_step(random)),
         2 => land.align = any_align(random),
         3 => land.head = land.head.wrapping_add(any_step(random)),
         4 => land.ranges = land.ranges.wrapping_add(any_step(random)),
-        _ => land.bytes = land.bytes.wrapping_add(any_step(random)),
+        5 => land.bytes = land.bytes.wrapping_add(any_step(random)),
+        6 => land.filled = land.filled.wrapping_add(any_step(random)),
+        _ => land.low = land.low.wrapping_add(any_step(random)),
     }
 }
 
 fn block_field(land: &mut BlockLand, random: &mut Random) {
-    match random.below(5) {
+    match random.below(7) {
         0 => land.base = land.base.wrapping_add(any_step(random)),
         1 => land.limit = land.limit.wrapping_add(any_step(random)),
         2 => land.align = any_align(random),
         3 => land.ranges = land.ranges.wrapping_add(any_step(random)),
-        _ => land.bytes = land.bytes.wrapping_add(any_step(random)),
+        4 => land.bytes = land.bytes.wrapping_add(any_step(random)),
+        5 => land.filled = land.filled.wrapping_add(any_step(random)),
+        _ => land.low = land.low.wrapping_add(any_step(random)),
     }
 }
 
-/// Damages a field of either land, or changes one land alone, so that the lands may overlap or touch.
-fn spoil_pair(pair: &mut Pair, memory: &mut [Vec<u64>; 2], random: &mut Random) {
+/// Damages a field, or makes the land one that was just opened.
+fn spoil_list(land: &mut ListLand, _: &mut [Vec<u64>; 1], random: &mut Random) {
     match random.below(4) {
+        0 => (*land, _) = empty_lands(land.base, land.limit, land.align),
+        _ => list_field(land, random),
+    }
+}
+
+/// The same of a block land.
+fn spoil_block(land: &mut BlockLand, [nodes]: &mut [Vec<u64>; 1], random: &mut Random) {
+    match random.below(4) {
+        0 => {
+            (_, *land) = empty_lands(land.base, land.limit, land.align);
+            nodes.fill(0);
+        }
+        _ => block_field(land, random),
+    }
+}
+
+/// Damages a field of either land, makes the block land one that was just opened, or changes one land alone, so that the
+/// lands may overlap or touch.
+fn spoil_pair(pair: &mut Pair, memory: &mut [Vec<u64>; 2], random: &mut Random) {
+    match random.below(5) {
         0 => list_field(&mut pair.list, random),
         1 => block_field(&mut pair.block, random),
+        2 => {
+            (_, pair.block) = empty_lands(pair.block.base, pair.block.limit, pair.block.align);
+            memory[1].fill(0);
+        }
         _ => {
             let arena = Range { base: pair.list.base, limit: pair.list.limit };
             let change = Change { insert: random.below(2) == 1, range: any_range(arena, random) };

@@ -32,6 +32,22 @@ fn find_ok(align: u64, size: u64, mode: u64) -> bool {
     size != 0 && size & (align - 1) == 0 && mode <= MODE_ENTIRE
 }
 
+/// Are a mark and low water sound beside so many free bytes?
+fn low_water_ok(filled: u64, low: u64, bytes: u64) -> bool {
+    (filled == 1 && low <= bytes) || filled | low | bytes == 0
+}
+
+/// Notes the free bytes that an accepted call leaves in a land that was sound: once, when all of the call is done. Bytes
+/// that are the same as before change nothing.
+fn note(filled: &mut u64, low: &mut u64, bytes: u64) {
+    if *filled == 0 {
+        *filled = u64::from(bytes != 0);
+        *low = bytes;
+    } else {
+        *low = bytes.min(*low);
+    }
+}
+
 /// What a find takes out of the range in which it found the size.
 fn part(old: Range, size: u64, mode: u64) -> Range {
     match mode {
@@ -132,6 +148,15 @@ fn list_set_up_ok(land: &ListLand, n: usize) -> bool {
     arena_ok(land.base, land.limit, land.align) && n as u64 == (land.limit - land.base) / 8
 }
 
+/// What is judged before the list is read.
+fn list_handle_ok(land: &ListLand) -> bool {
+    low_water_ok(land.filled, land.low, land.bytes)
+}
+
+fn note_list(land: &mut ListLand) {
+    note(&mut land.filled, &mut land.low, land.bytes);
+}
+
 fn write_node(words: &mut [u64], arena: u64, base: u64, limit: u64, next: u64) {
     let i = ((base - arena) / 8) as usize;
     if limit - base == 8 {
@@ -175,6 +200,9 @@ pub fn list_insert(mut land: ListLand, words: &mut [u64], r: Range) -> Changed<L
     if !list_set_up_ok(&land, words.len()) {
         return no_change(land, ANSWER_SET_UP);
     }
+    if !list_handle_ok(&land) {
+        return no_change(land, ANSWER_DAMAGED);
+    }
     let mut walk = ListWalk::from_head(&land);
     let mut below = Node::default();
     while walk.at != 0 && walk.at < r.base {
@@ -200,6 +228,7 @@ pub fn list_insert(mut land: ListLand, words: &mut [u64], r: Range) -> Changed<L
         return no_change(land, ANSWER_OVERLAP);
     }
     let all = list_put(&mut land, words, below, above, r);
+    note_list(&mut land);
     changed(land, ANSWER_OK, all)
 }
 
@@ -235,6 +264,9 @@ pub fn list_delete(mut land: ListLand, words: &mut [u64], r: Range) -> Changed<L
     if !list_set_up_ok(&land, words.len()) {
         return no_change(land, ANSWER_SET_UP);
     }
+    if !list_handle_ok(&land) {
+        return no_change(land, ANSWER_DAMAGED);
+    }
     let mut walk = ListWalk::from_head(&land);
     let mut met = Node::default();
     let mut below = 0;
@@ -255,6 +287,7 @@ pub fn list_delete(mut land: ListLand, words: &mut [u64], r: Range) -> Changed<L
         return no_change(land, ANSWER_OVERLAP);
     }
     list_take(&mut land, words, below, met, r);
+    note_list(&mut land);
     changed(land, ANSWER_OK, Range { base: met.base, limit: met.limit })
 }
 
@@ -262,6 +295,9 @@ pub fn list_delete(mut land: ListLand, words: &mut [u64], r: Range) -> Changed<L
 pub fn list_find_first(mut land: ListLand, words: &mut [u64], size: u64, mode: u64) -> Found<ListLand> {
     if !list_set_up_ok(&land, words.len()) {
         return not_found(land, ANSWER_SET_UP);
+    }
+    if !list_handle_ok(&land) {
+        return not_found(land, ANSWER_DAMAGED);
     }
     let mut walk = ListWalk::from_head(&land);
     let mut met = Node::default();
@@ -288,6 +324,7 @@ pub fn list_find_first(mut land: ListLand, words: &mut [u64], size: u64, mode: u
     let range = part(old, size, mode);
     if mode != MODE_NONE {
         list_take(&mut land, words, below, met, range);
+        note_list(&mut land);
     }
     Found { land, answer: ANSWER_OK, range, old }
 }
@@ -342,10 +379,19 @@ fn block_set_up_ok(land: &BlockLand, m: usize) -> bool {
     arena_ok(land.base, land.limit, land.align) && m <= NODE_WORDS_MAX
 }
 
+/// What is judged before the table is read.
+fn block_handle_ok(land: &BlockLand, m: usize) -> bool {
+    land.ranges <= m as u64 / 2 && low_water_ok(land.filled, land.low, land.bytes)
+}
+
+fn note_block(land: &mut BlockLand) {
+    note(&mut land.filled, &mut land.low, land.bytes);
+}
+
 /// Scans the whole table once. The number of pairs before the first that is not `wanted`, or none if the table is not
 /// sound.
 fn scan(land: &BlockLand, nodes: &[u64], wanted: impl Fn(u64, u64) -> bool) -> Option<usize> {
-    if land.ranges > nodes.len() as u64 / 2 {
+    if !block_handle_ok(land, nodes.len()) {
         return None;
     }
     let (pairs, tail) = nodes[..nodes.len() & !1].split_at(2 * land.ranges as usize);
@@ -434,10 +480,11 @@ pub fn block_insert(mut land: BlockLand, nodes: &mut [u64], r: Range) -> Changed
     if table_overlaps(&land, nodes, i, r) {
         return no_change(land, ANSWER_OVERLAP);
     }
-    match block_put(&mut land, nodes, i, r) {
-        Some(all) => changed(land, ANSWER_OK, all),
-        None => no_change(land, ANSWER_FULL),
-    }
+    let Some(all) = block_put(&mut land, nodes, i, r) else {
+        return no_change(land, ANSWER_FULL);
+    };
+    note_block(&mut land);
+    changed(land, ANSWER_OK, all)
 }
 
 #[inline(never)]
@@ -459,6 +506,7 @@ pub fn block_delete(mut land: BlockLand, nodes: &mut [u64], r: Range) -> Changed
         return no_change(land, ANSWER_FULL);
     }
     block_take(&mut land, nodes, behind - 1, old, r);
+    note_block(&mut land);
     changed(land, ANSWER_OK, old)
 }
 
@@ -481,6 +529,7 @@ pub fn block_find_first(mut land: BlockLand, nodes: &mut [u64], size: u64, mode:
     let range = part(old, size, mode);
     if mode != MODE_NONE {
         block_take(&mut land, nodes, i, old, range);
+        note_block(&mut land);
     }
     Found { land, answer: ANSWER_OK, range, old }
 }

@@ -136,6 +136,7 @@ fn main() -> ExitCode {
             }
             agree::on_set_ups();
             agree::on_damage();
+            agree::on_marks();
             agree::on_overlaps();
             agree::on_random(if options.quick { 20_000 } else { 200_000 });
             if options.quick {

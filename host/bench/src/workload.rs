@@ -91,6 +91,11 @@ impl Chequer {
     fn bytes(&self) -> u64 {
         self.ranges.iter().map(|r| r.limit - r.base).sum()
     }
+
+    /// The mark of a land into which one call put all ranges; its low water is their bytes.
+    fn filled(&self) -> u64 {
+        u64::from(!self.ranges.is_empty())
+    }
 }
 
 /// A land of either kind, or a pair, that holds a chequer's ranges, written down by the paper's layout and by no call.
@@ -99,7 +104,7 @@ pub trait Land:
 {
     fn holding(chequer: &Chequer) -> (Self, Self::Memory);
 
-    /// Makes the counts those of a walk that checks nothing.
+    /// Makes the counts those of a walk that checks nothing, and the mark and low water such as fit them.
     fn recount(&mut self, memory: &Self::Memory);
 }
 
@@ -125,6 +130,8 @@ impl Land for ListLand {
             head: next,
             ranges: chequer.ranges.len() as u64,
             bytes: chequer.bytes(),
+            filled: chequer.filled(),
+            low: chequer.bytes(),
         };
         (land, [words])
     }
@@ -134,12 +141,13 @@ impl Land for ListLand {
         let mut at = self.head;
         while at != 0 && self.ranges < words.len() as u64 {
             let i = (at.wrapping_sub(self.base) / 8) as usize;
-            let (Some(first), second) = (words.get(i), words.get(i + 1)) else { return };
+            let (Some(first), second) = (words.get(i), words.get(i + 1)) else { break };
             let limit = if first & 1 == 1 { at + 8 } else { second.copied().unwrap_or(0) };
             self.ranges += 1;
             self.bytes = self.bytes.wrapping_add(limit.wrapping_sub(at));
             at = first & !1;
         }
+        (self.filled, self.low) = fitting(self.filled, self.low, self.bytes);
     }
 }
 
@@ -153,6 +161,8 @@ impl Land for BlockLand {
             align: ALIGN,
             ranges: chequer.ranges.len() as u64,
             bytes: chequer.bytes(),
+            filled: chequer.filled(),
+            low: chequer.bytes(),
         };
         (land, [nodes])
     }
@@ -160,7 +170,13 @@ impl Land for BlockLand {
     fn recount(&mut self, [nodes]: &Self::Memory) {
         let pairs = nodes.chunks_exact(2).take(self.ranges as usize);
         self.bytes = pairs.map(|pair| pair[1].wrapping_sub(pair[0])).fold(0, u64::wrapping_add);
+        (self.filled, self.low) = fitting(self.filled, self.low, self.bytes);
     }
+}
+
+/// A mark and low water that are sound beside so many free bytes: those given, where they are.
+fn fitting(filled: u64, low: u64, bytes: u64) -> (u64, u64) {
+    (u64::from(filled == 1 || bytes != 0), low.min(bytes))
 }
 
 /// A pair with the ranges that are marked in the block land, and the others in the list.

@@ -46,8 +46,13 @@ pub const FINDS: [[&str; 6]; 3] = [
 /// The finds of the largest among equals in different lands.
 pub const TIES: [&str; 2] = ["largest, tie, list lower", "largest, tie, block lower"];
 
+/// The inserts whose inner flush alone would leave a land a lower low water than the whole call: the list, which it
+/// empties for a moment, and a block land that had no mark.
+pub const BETWEEN: [&str; 2] =
+    ["insert, flush alone lowers low water, list", "insert, flush alone lowers low water, block"];
+
 /// The branches of calls on lands that are refused before the request is looked at.
-pub const FAULTS: [&str; 12] = [
+pub const FAULTS: [&str; 14] = [
     "5, list",
     "5, number of arena words",
     "5, block land",
@@ -59,6 +64,8 @@ pub const FAULTS: [&str; 12] = [
     "6, list",
     "6, table",
     "6, both",
+    "6, only low water of the list",
+    "6, only low water of the table",
     "6, overlap",
 ];
 
@@ -92,9 +99,7 @@ fn faults(given: &Given) -> Vec<&'static str> {
         [None, _] => vec!["5, list"],
         [_, None] => vec!["5, block land"],
         [Some(one), Some(other)] if one != other => vec![difference(&one, &other)],
-        _ if ranges == [None, None] => return vec!["6, both"],
-        _ if ranges[0].is_none() => return vec!["6, list"],
-        _ => return vec!["6, table"],
+        _ => return unsound(given, ranges),
     };
     for (land, name) in ["5, list damaged too", "5, table damaged too"].into_iter().enumerate() {
         if arenas[land].is_some() && ranges[land].is_none() {
@@ -102,6 +107,18 @@ fn faults(given: &Given) -> Vec<&'static str> {
         }
     }
     faults
+}
+
+/// Which of two lands of one arena are not sound, and whether only the mark or low water of one is at fault.
+fn unsound(given: &Given, ranges: [Option<Vec<Range>>; 2]) -> Vec<&'static str> {
+    let only_low_water = given.with_sound_low_water().lands().is_some();
+    match ranges {
+        [None, None] => vec!["6, both"],
+        [None, _] if only_low_water => vec!["6, list", "6, only low water of the list"],
+        [None, _] => vec!["6, list"],
+        _ if only_low_water => vec!["6, table", "6, only low water of the table"],
+        _ => vec!["6, table"],
+    }
 }
 
 /// In what two arenas differ.
@@ -129,7 +146,7 @@ fn refused_insert(lands: &Lands, range: Range) -> Vec<&'static str> {
     names.into_iter().zip(lands.free(range)).filter(|(_, free)| *free > 0).map(|(name, _)| name).collect()
 }
 
-/// What the flush of an insert moved, and the land that took the range.
+/// What the flush of an insert moved, the land that took the range, and the low waters that are not read between.
 fn insert(given: &Given, done: &Done<Pair>) -> Vec<&'static str> {
     let (mut words, mut nodes) = (given.words.to_vec(), given.nodes.to_vec());
     let flushed = flush::flush(given.pair.list, &mut words, given.pair.block, &mut nodes);
@@ -140,7 +157,10 @@ fn insert(given: &Given, done: &Done<Pair>) -> Vec<&'static str> {
         _ => "insert, flush moves some",
     };
     let listed = done.land.list.bytes > flushed.list.bytes;
-    vec![moves, if listed { "insert into the list" } else { "insert into the block land" }]
+    let mut names = vec![moves, if listed { "insert into the list" } else { "insert into the block land" }];
+    let lower = [flushed.list.low < done.land.list.low, flushed.block.low < done.land.block.low];
+    names.extend(BETWEEN.into_iter().zip(lower).filter(|(_, lower)| *lower).map(|(name, _)| name));
+    names
 }
 
 /// The land that a delete took the range from, or why it is refused.

@@ -44,22 +44,23 @@ mod tests {
     use crate::lent::Lent;
     use limbegoru_model::{BlockHandle, Done, Flushed, ListHandle, Opened, Pair, Range};
 
-    const LIST: ListHandle = ListHandle { base: 1, limit: 2, align: 3, head: 4, ranges: 5, bytes: 6 };
-    const BLOCK: BlockHandle = BlockHandle { base: 1, limit: 2, align: 3, ranges: 5, bytes: 6 };
+    const LIST: ListHandle =
+        ListHandle { base: 1, limit: 2, align: 3, head: 4, ranges: 5, bytes: 6, filled: 7, low: 8 };
+    const BLOCK: BlockHandle = BlockHandle { base: 1, limit: 2, align: 3, ranges: 5, bytes: 6, filled: 7, low: 8 };
 
     /// A list handle with one field changed.
     fn list_but(field: usize) -> ListHandle {
         let mut changed = LIST;
-        let ListHandle { base, limit, align, head, ranges, bytes } = &mut changed;
-        *[base, limit, align, head, ranges, bytes][field] ^= 1 << 63;
+        let ListHandle { base, limit, align, head, ranges, bytes, filled, low } = &mut changed;
+        *[base, limit, align, head, ranges, bytes, filled, low][field] ^= 1 << 63;
         changed
     }
 
     /// A block handle with one field changed.
     fn block_but(field: usize) -> BlockHandle {
         let mut changed = BLOCK;
-        let BlockHandle { base, limit, align, ranges, bytes } = &mut changed;
-        *[base, limit, align, ranges, bytes][field] ^= 1;
+        let BlockHandle { base, limit, align, ranges, bytes, filled, low } = &mut changed;
+        *[base, limit, align, ranges, bytes, filled, low][field] ^= 1;
         changed
     }
 
@@ -67,7 +68,7 @@ mod tests {
     fn every_field_of_a_call() {
         let done = Done { land: LIST, answer: 0, range: Range::new(7, 8), old: Range::new(9, 10) };
         assert!(compare(&done, &done, &[]).is_ok());
-        for field in 0..6 {
+        for field in 0..8 {
             assert!(compare(&done, &Done { land: list_but(field), ..done }, &[]).is_err());
         }
         assert!(compare(&done, &Done { answer: 1, ..done }, &[]).is_err());
@@ -76,7 +77,7 @@ mod tests {
         assert!(compare(&done, &Done { old: Range::new(8, 10), ..done }, &[]).is_err());
         assert!(compare(&done, &Done { old: Range::new(9, 11), ..done }, &[]).is_err());
         let block = Done { land: BLOCK, answer: 0, range: Range::NOTHING, old: Range::NOTHING };
-        for field in 0..5 {
+        for field in 0..7 {
             assert!(compare(&block, &Done { land: block_but(field), ..block }, &[]).is_err());
         }
     }
@@ -84,12 +85,12 @@ mod tests {
     #[test]
     fn every_field_of_an_opening_and_of_a_flush() {
         let opened = Opened { land: LIST, answer: 0 };
-        assert!(compare(&opened, &Opened { land: list_but(3), ..opened }, &[]).is_err());
+        assert!(compare(&opened, &Opened { land: list_but(6), ..opened }, &[]).is_err());
         assert!(compare(&opened, &Opened { answer: 5, ..opened }, &[]).is_err());
         let flushed = Flushed { list: LIST, block: BLOCK, answer: 0, moved: 2, stop: 3 };
         assert!(compare(&flushed, &flushed, &[]).is_ok());
-        assert!(compare(&flushed, &Flushed { list: list_but(5), ..flushed }, &[]).is_err());
-        assert!(compare(&flushed, &Flushed { block: block_but(4), ..flushed }, &[]).is_err());
+        assert!(compare(&flushed, &Flushed { list: list_but(7), ..flushed }, &[]).is_err());
+        assert!(compare(&flushed, &Flushed { block: block_but(6), ..flushed }, &[]).is_err());
         assert!(compare(&flushed, &Flushed { answer: 5, ..flushed }, &[]).is_err());
         assert!(compare(&flushed, &Flushed { moved: 1, ..flushed }, &[]).is_err());
         assert!(compare(&flushed, &Flushed { stop: 0, ..flushed }, &[]).is_err());
@@ -100,11 +101,11 @@ mod tests {
         let pair = Pair { list: LIST, block: BLOCK };
         let done = Done { land: pair, answer: 7, range: Range::NOTHING, old: Range::NOTHING };
         assert!(compare(&done, &done, &[]).is_ok());
-        for field in 0..6 {
+        for field in 0..8 {
             let land = Pair { list: list_but(field), ..pair };
             assert!(compare(&done, &Done { land, ..done }, &[]).is_err());
         }
-        for field in 0..5 {
+        for field in 0..7 {
             let land = Pair { block: block_but(field), ..pair };
             assert!(compare(&done, &Done { land, ..done }, &[]).is_err());
         }

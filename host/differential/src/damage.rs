@@ -1,7 +1,7 @@
 //! Lands whose handle or words are not sound, or only just.
 
 use limbegoru_model::arena::HIGHEST_LIMIT;
-use limbegoru_model::{Arena, BlockHandle, ListHandle, Range};
+use limbegoru_model::{Arena, BlockHandle, ListHandle, LowWater, Range};
 
 use crate::generate;
 use crate::random::Random;
@@ -42,7 +42,8 @@ fn entries_of(ranges: &[Range]) -> Vec<Entry> {
     ranges.iter().map(|range| Entry { range: *range, grain: range.length() == 8 }).collect()
 }
 
-/// One entry breaks a rule, or all keep them. The counts will follow the entries, so that nothing else is at fault.
+/// One entry breaks a rule, or all keep them. The counts and low water will follow the entries, so that nothing else is
+/// at fault.
 fn fault_in_one(random: &mut Random, arena: &Arena, entry: &mut Entry) {
     let range = &mut entry.range;
     match random.below(6) {
@@ -127,6 +128,19 @@ fn instead(random: &mut Random, arena: &Arena, ranges: &[Range], number: u64) ->
     }
 }
 
+/// Another mark or low water: a bad mark, an unset mark, or a low water near the free bytes or far above them.
+fn other_low_water(random: &mut Random, LowWater { filled, low }: LowWater, bytes: u64) -> LowWater {
+    let bad_mark = random.pick(&[2, 3, 256, 1 << 32, (1 << 32) + 1, 1 << 63, u64::MAX]);
+    let near = bytes.wrapping_add(random.pick(&[0, 1, 8]));
+    match random.below(5) {
+        0 => LowWater { filled: bad_mark, low },
+        1 => LowWater { filled, low: near },
+        2 => LowWater { filled, low: random.pick(&[1 << 63, low ^ (1 << 63), u64::MAX]) },
+        3 => LowWater { filled: 0, low },
+        _ => LowWater { filled: 0, low: random.pick(&[0, 8, bytes]) },
+    }
+}
+
 /// Makes the memory shorter or longer.
 fn other_length(random: &mut Random, words: &mut Vec<u64>) {
     let length = words.len();
@@ -149,7 +163,9 @@ impl ListState {
     pub fn of(random: &mut Random, arena: Arena, ranges: &[Range]) -> ListState {
         let mut words = generate::words(random, &arena, arena.words() as usize);
         lay_out(&arena, &entries_of(ranges), &mut words);
-        ListState { arena, ranges: ranges.to_vec(), land: ListHandle::of(&arena, ranges), words }
+        let mut state = ListState { arena, ranges: ranges.to_vec(), land: ListHandle::of(&arena, ranges), words };
+        state.set_low_water(generate::low_water(random, state.land.bytes));
+        state
     }
 
     /// Faults and damage, or none.
@@ -160,26 +176,32 @@ impl ListState {
         self.land.head = entries.first().map_or(0, |first| first.range.base);
         self.land.ranges = entries.len() as u64;
         self.land.bytes = counted(&entries, true);
+        self.set_low_water(generate::low_water(random, self.land.bytes));
         for _ in 0..random.pick(&[0, 0, 1, 1, 2]) {
             self.damage(random);
         }
     }
 
-    /// Changes one field, one word or the length.
+    /// The land with this mark and low water.
+    fn set_low_water(&mut self, LowWater { filled, low }: LowWater) {
+        (self.land.filled, self.land.low) = (filled, low);
+    }
+
+    /// Changes one field, one word, the length, or the mark or low water.
     fn damage(&mut self, random: &mut Random) {
-        match random.below(10) {
+        match random.below(12) {
             0..=3 => self.damage_field(random),
             4 => other_length(random, &mut self.words),
+            5 | 6 => self.set_low_water(other_low_water(random, self.land.low_water(), self.land.bytes)),
             _ => self.damage_word(random),
         }
     }
 
     /// Changes one field of the handle.
     fn damage_field(&mut self, random: &mut Random) {
-        let land = &mut self.land;
-        let mut fields =
-            [&mut land.base, &mut land.limit, &mut land.align, &mut land.head, &mut land.ranges, &mut land.bytes];
-        let field = &mut fields[random.place(6)];
+        let ListHandle { base, limit, align, head, ranges, bytes, filled, low } = &mut self.land;
+        let mut fields = [base, limit, align, head, ranges, bytes, filled, low];
+        let field = &mut fields[random.place(8)];
         **field = instead(random, &self.arena, &self.ranges, **field);
     }
 
@@ -213,7 +235,9 @@ impl BlockState {
         if random.once_in(2) {
             nodes.push(generate::number(random, &arena, ranges));
         }
-        BlockState { arena, ranges: ranges.to_vec(), land: BlockHandle::of(&arena, ranges), nodes }
+        let mut state = BlockState { arena, ranges: ranges.to_vec(), land: BlockHandle::of(&arena, ranges), nodes };
+        state.set_low_water(generate::low_water(random, state.land.bytes));
+        state
     }
 
     /// Faults and damage, or none.
@@ -226,25 +250,32 @@ impl BlockState {
         }
         self.land.ranges = entries.len() as u64;
         self.land.bytes = counted(&entries, false);
+        self.set_low_water(generate::low_water(random, self.land.bytes));
         for _ in 0..random.pick(&[0, 0, 1, 1, 2]) {
             self.damage(random);
         }
     }
 
-    /// Changes one field, one word or the length.
+    /// The land with this mark and low water.
+    fn set_low_water(&mut self, LowWater { filled, low }: LowWater) {
+        (self.land.filled, self.land.low) = (filled, low);
+    }
+
+    /// Changes one field, one word, the length, or the mark or low water.
     fn damage(&mut self, random: &mut Random) {
-        match random.below(10) {
+        match random.below(12) {
             0..=3 => self.damage_field(random),
             4 => other_length(random, &mut self.nodes),
+            5 | 6 => self.set_low_water(other_low_water(random, self.land.low_water(), self.land.bytes)),
             _ => self.damage_word(random),
         }
     }
 
     /// Changes one field of the handle.
     pub fn damage_field(&mut self, random: &mut Random) {
-        let land = &mut self.land;
-        let mut fields = [&mut land.base, &mut land.limit, &mut land.align, &mut land.ranges, &mut land.bytes];
-        let field = &mut fields[random.place(5)];
+        let BlockHandle { base, limit, align, ranges, bytes, filled, low } = &mut self.land;
+        let mut fields = [base, limit, align, ranges, bytes, filled, low];
+        let field = &mut fields[random.place(7)];
         **field = instead(random, &self.arena, &self.ranges, **field);
     }
 

@@ -1,7 +1,7 @@
 //! Arenas, sets of ranges, requests and memory.
 
 use limbegoru_model::arena::HIGHEST_LIMIT;
-use limbegoru_model::{set, Arena, Call, Find, Range};
+use limbegoru_model::{set, Arena, Call, Find, LowWater, Range};
 
 use crate::lent::Lent;
 use crate::random::Random;
@@ -79,6 +79,16 @@ pub fn ranges(random: &mut Random, arena: &Arena, most: usize) -> Vec<Range> {
         base = limit + stride * few(random);
     }
     ranges
+}
+
+/// A mark and a low water that are sound beside so many free bytes: a set mark with low water 0, the bytes, or
+/// something between, and where there are none also an unset one.
+pub fn low_water(random: &mut Random, bytes: u64) -> LowWater {
+    if bytes == 0 {
+        return LowWater { filled: random.below(2), low: 0 };
+    }
+    let between = random.below(bytes);
+    LowWater { filled: 1, low: random.pick(&[0, bytes, between, bytes - 1]) }
 }
 
 /// A number near another one: equal, or off by one, by 8, by an alignment, by the tag.

@@ -1,6 +1,6 @@
 //! A pair as it was given to a call, and the sets of its lands.
 
-use limbegoru_model::{block, list, set, Arena, Pair, Range};
+use limbegoru_model::{block, list, set, Arena, BlockHandle, ListHandle, Pair, Range};
 
 /// The handles and both memories.
 pub struct Given<'a> {
@@ -35,6 +35,13 @@ impl Given<'_> {
         let [from, to] = self.arenas();
         let listed = from.and_then(|arena| list::read(&arena, &self.pair.list, self.words));
         [listed, to.and_then(|arena| block::read(&arena, &self.pair.block, self.nodes))]
+    }
+
+    /// The same with set marks and low water 0, which are sound beside any number of free bytes.
+    pub fn with_sound_low_water(&self) -> Given<'_> {
+        let list = ListHandle { filled: 1, low: 0, ..self.pair.list };
+        let block = BlockHandle { filled: 1, low: 0, ..self.pair.block };
+        Given { pair: Pair { list, block }, ..*self }
     }
 
     /// The sets, if both lands are sound and of one arena.

@@ -1,4 +1,4 @@
-//! The compiled component against the model of document 01 and of request K4.
+//! The compiled component against the model of document 01 and of the requests K4 and K10.
 //!
 //! Every call is made on both. The whole result, every word of the lent memory and the guard words around it are
 //! compared after every call. All calls follow from a seed, so a failure can be repeated; it is reported with the seed,

@@ -1,5 +1,6 @@
-//! A host that keeps paragraphs in memory of its own: it gives out free bytes, takes them back, and is told where it
-//! takes some back twice. `cargo run --offline --release -p limbegoru --example paragraphs`
+//! A host that keeps paragraphs in memory of its own: it gives out free bytes, takes them back, is told where it takes
+//! some back twice, and reads how many bytes it had to spare.
+//! `cargo run --offline --release -p limbegoru --example paragraphs`
 
 use limbegoru::{ListLand, Mode, Range, Refusal};
 
@@ -28,5 +29,8 @@ fn main() -> Result<(), Refusal> {
         println!("free: {} to {}", range.base, range.limit);
     }
     assert_eq!(land.handle().bytes, all.length() - second.range.length());
+    let spare = land.low_water().unwrap_or(0);
+    println!("low water: {spare} of {} bytes were free at the least", all.length());
+    assert_eq!(spare, all.length() - first.range.length() - second.range.length());
     Ok(())
 }

@@ -23,6 +23,9 @@ fn main() -> Result<(), Refusal> {
         let range = range?;
         println!("free: {} to {}", range.base, range.limit);
     }
+    if let (Some(tabled), Some(listed)) = (pair.block().low_water(), pair.list().low_water()) {
+        println!("low water: {tabled} bytes in the table, {listed} in the list");
+    }
     let handle = pair.handle();
     assert_eq!(handle.block.bytes + handle.list.bytes, 3 * 40 - last.range.length());
     Ok(())

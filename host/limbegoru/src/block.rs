@@ -49,6 +49,24 @@ impl<'w> BlockLand<'w> {
         self.handle
     }
 
+    /// Low water: the least number of free bytes after any accepted call, from the first that left the land non-empty
+    /// on; nothing before that one.
+    ///
+    /// ```
+    /// # use limbegoru::{flush, BlockLand, ListLand, Range, Refusal};
+    /// # let (mut words, mut nodes) = ([0; 8], [0; 4]);
+    /// let mut list = ListLand::open(4096, 4160, 8, &mut words)?;
+    /// list.insert(Range::new(4096, 4104))?;
+    /// list.insert(Range::new(4120, 4136))?;
+    /// let mut block = BlockLand::open(4096, 4160, 8, &mut nodes)?;
+    /// flush(&mut list, &mut block)?; // one call, in which both ranges are moved
+    /// assert_eq!((list.low_water(), block.low_water()), (Some(0), Some(24)));
+    /// # Ok::<(), Refusal>(())
+    /// ```
+    pub fn low_water(&self) -> Option<u64> {
+        self.handle.low_water()
+    }
+
     /// The number of ranges that node space can hold.
     pub fn capacity(&self) -> usize {
         self.nodes.len() / 2

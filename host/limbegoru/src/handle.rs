@@ -38,6 +38,17 @@ pub struct ListHandle {
     pub ranges: u64,
     /// The number of free bytes.
     pub bytes: u64,
+    /// The mark: 1 once an accepted call has left the land non-empty, 0 before.
+    pub filled: u64,
+    /// Low water: the least number of free bytes after any accepted call from that one on, 0 before.
+    pub low: u64,
+}
+
+impl ListHandle {
+    /// Low water; nothing before the mark is set.
+    pub const fn low_water(self) -> Option<u64> {
+        low_water(self.filled, self.low)
+    }
 }
 
 /// The handle of a block land.
@@ -54,6 +65,25 @@ pub struct BlockHandle {
     pub ranges: u64,
     /// The number of free bytes.
     pub bytes: u64,
+    /// The mark: 1 once an accepted call has left the land non-empty, 0 before.
+    pub filled: u64,
+    /// Low water: the least number of free bytes after any accepted call from that one on, 0 before.
+    pub low: u64,
+}
+
+impl BlockHandle {
+    /// Low water; nothing before the mark is set.
+    pub const fn low_water(self) -> Option<u64> {
+        low_water(self.filled, self.low)
+    }
+}
+
+/// Low water by the two fields. A mark that is neither 0 nor 1 is not set: the next call refuses its handle.
+const fn low_water(filled: u64, low: u64) -> Option<u64> {
+    match filled {
+        1 => Some(low),
+        _ => None,
+    }
 }
 
 /// The handle of a pair: those of its two lands.

@@ -44,6 +44,25 @@
 //! # Ok::<(), Refusal>(())
 //! ```
 //!
+//! To size an arena, a host reads low water, the least number of free bytes after any accepted call, from the first that
+//! left the land non-empty on. Where that first call made the whole arena free, it is what was to spare when most was in
+//! use:
+//!
+//! ```
+//! use limbegoru::{ListLand, Mode, Range, Refusal};
+//!
+//! let mut words = [0; 64];
+//! let mut land = ListLand::open(4096, 4096 + 8 * 64, 8, &mut words)?;
+//! assert_eq!(land.low_water(), None); // nothing was free yet
+//! land.insert(Range::new(4096, 4096 + 8 * 64))?;
+//! for _ in 0..10 {
+//!     let given = land.find_first(40, Mode::Low)?.range;
+//!     land.insert(given)?;
+//! }
+//! assert_eq!(land.low_water(), Some(8 * 64 - 40)); // no more than 40 bytes were given out at once
+//! # Ok::<(), Refusal>(())
+//! ```
+//!
 //! The archive `liblimbegoru.a` is made by `host/c/build`; `LIMBEGORU_ARCHIVE_DIR` names its folder if it is elsewhere.
 #![no_std]
 #![deny(missing_docs)]
@@ -67,7 +86,7 @@ pub use refusal::Refusal;
 
 /// The number of the interface for which this crate is written; [`calls::version`] returns the archive's. It is raised
 /// by every change of a struct, a function or the meaning of an answer.
-pub const VERSION: u64 = 1;
+pub const VERSION: u64 = 2;
 /// The highest limit of an arena, 2^40.
 pub const LIMIT_MAX: u64 = 1 << 40;
 /// The lowest alignment.
@@ -96,7 +115,7 @@ pub struct Flushed {
 }
 
 /// Moves the list's ranges, in address order, into the block land of the same arena, until none is left or one is
-/// refused; that one stays in the list. No arena word changes.
+/// refused; that one stays in the list. No arena word changes. For low water it is one call on each of the two lands.
 ///
 /// ```
 /// use limbegoru::{flush, BlockLand, Flushed, ListLand, Range, Refusal};

@@ -48,6 +48,24 @@ impl<'w> ListLand<'w> {
         self.handle
     }
 
+    /// Low water: the least number of free bytes after any accepted call, from the first that left the land non-empty
+    /// on; nothing before that one.
+    ///
+    /// ```
+    /// # use limbegoru::{ListLand, Mode, Range, Refusal};
+    /// # let mut words = [0; 8];
+    /// let mut land = ListLand::open(4096, 4160, 8, &mut words)?;
+    /// assert_eq!(land.low_water(), None);
+    /// land.insert(Range::new(4096, 4160))?;
+    /// let found = land.find_first(24, Mode::Low)?;
+    /// land.insert(found.range)?;
+    /// assert_eq!((land.handle().bytes, land.low_water()), (64, Some(40)));
+    /// # Ok::<(), Refusal>(())
+    /// ```
+    pub fn low_water(&self) -> Option<u64> {
+        self.handle.low_water()
+    }
+
     /// All words of the arena.
     pub fn words(&self) -> &[u64] {
         self.words

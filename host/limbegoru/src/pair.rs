@@ -8,8 +8,8 @@ use crate::{calls, sys, BlockLand, Found, ListLand, Refusal};
 /// A list land and a block land of the same arena, with no byte free in both.
 ///
 /// Free means free in either land. What has no room in node space is kept in the list, so that no call answers
-/// [`Refusal::Full`]. A range that is returned is one of the land concerned. A refused call leaves both lands as they
-/// were.
+/// [`Refusal::Full`]. A range that is returned is one of the land concerned. Each land keeps a low water of its own, read
+/// after each accepted call on the pair. A refused call leaves both lands as they were.
 pub struct Pair<'w> {
     list: ListLand<'w>,
     block: BlockLand<'w>,
@@ -57,12 +57,27 @@ impl<'w> Pair<'w> {
         PairHandle { list: self.list.handle(), block: self.block.handle() }
     }
 
-    /// The list land, to walk it.
+    /// The list land, to walk it and to read its low water.
+    ///
+    /// ```
+    /// # use limbegoru::{BlockLand, ListLand, Pair, Range, Refusal};
+    /// # let (mut words, mut nodes) = ([0; 8], [0; 2]);
+    /// # let list = ListLand::open(4096, 4160, 8, &mut words)?;
+    /// # let block = BlockLand::open(4096, 4160, 8, &mut nodes)?;
+    /// let mut pair = Pair::new(list, block); // room for one range in node space
+    /// pair.insert(Range::new(4096, 4104))?;
+    /// assert_eq!((pair.list().low_water(), pair.block().low_water()), (None, Some(8)));
+    /// pair.insert(Range::new(4112, 4128))?;
+    /// pair.delete(Range::new(4096, 4104))?;
+    /// pair.insert(Range::new(4136, 4152))?; // empties the list and fills it again, in one call
+    /// assert_eq!((pair.list().low_water(), pair.block().low_water()), (Some(16), Some(0)));
+    /// # Ok::<(), Refusal>(())
+    /// ```
     pub fn list(&self) -> &ListLand<'w> {
         &self.list
     }
 
-    /// The block land, to walk it.
+    /// The block land, to walk it and to read its low water.
     pub fn block(&self) -> &BlockLand<'w> {
         &self.block
     }

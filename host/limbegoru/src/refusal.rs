@@ -20,7 +20,7 @@ pub enum Refusal {
     /// The handle's fixed fields or the lent lengths break the arena rules; in a flush and on a pair, also if the two
     /// lands differ in base, limit or alignment.
     SetUp = 5,
-    /// The list or table is not sound, or the lands of a pair overlap.
+    /// The list or table, or the handle's mark or low water, is not sound, or the lands of a pair overlap.
     Damaged = 6,
     /// Delete on a pair: every byte is free, but neither land holds all of them.
     InBoth = 7,
@@ -70,7 +70,9 @@ impl fmt::Display for Refusal {
             Refusal::SetUp => {
                 "the handle's fixed fields or the lent lengths break the arena rules, or two lands have two arenas"
             }
-            Refusal::Damaged => "the list or table is not sound, or the lands of a pair overlap",
+            Refusal::Damaged => {
+                "the list or table, or the handle's mark or low water, is not sound, or the lands of a pair overlap"
+            }
             Refusal::InBoth => "delete on a pair: every byte is free, but neither land holds all of them",
         })
     }

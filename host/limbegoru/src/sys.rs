@@ -5,9 +5,9 @@ use crate::handle::{BlockHandle, ListHandle, PairHandle, Range};
 
 /// A range: `base`, `limit`.
 pub type lg_range = Range;
-/// A list handle: `base`, `limit`, `align`, `head`, `ranges`, `bytes`.
+/// A list handle: `base`, `limit`, `align`, `head`, `ranges`, `bytes`, `filled`, `low`.
 pub type lg_list_land = ListHandle;
-/// A block handle: `base`, `limit`, `align`, `ranges`, `bytes`.
+/// A block handle: `base`, `limit`, `align`, `ranges`, `bytes`, `filled`, `low`.
 pub type lg_block_land = BlockHandle;
 /// A pair's handle: `list`, `block`.
 pub type lg_pair = PairHandle;

@@ -1,8 +1,8 @@
-//! The safe interface: borrowing, parts, refusals in words, limits, ranges by walks.
+//! The safe interface: borrowing, parts, refusals in words, limits, ranges by walks, low water.
 
 use limbegoru::{
-    flush, sys, BlockHandle, BlockLand, Found, ListHandle, ListLand, Mode, Pair, PairHandle, Range, Ranges, Refusal,
-    ALIGN_MAX, ALIGN_MIN, LIMIT_MAX, NODE_WORDS_MAX,
+    flush, sys, BlockHandle, BlockLand, Flushed, Found, ListHandle, ListLand, Mode, Pair, PairHandle, Range, Ranges,
+    Refusal, ALIGN_MAX, ALIGN_MIN, LIMIT_MAX, NODE_WORDS_MAX,
 };
 
 /// [base, limit).
@@ -22,7 +22,8 @@ fn a_list_land_by_its_calls() -> Result<(), Refusal> {
     assert_eq!(land.walk(0)?, range(4096, 4112));
     assert_eq!(land.walk(4097), Err(Refusal::NoneFound));
     let (handle, words) = land.into_parts();
-    assert_eq!(handle, ListHandle { base: 4096, limit: 4160, align: 8, head: 4096, ranges: 1, bytes: 16 });
+    let counts = ListHandle { head: 4096, ranges: 1, bytes: 16, filled: 1, low: 16, ..ListHandle::default() };
+    assert_eq!(handle, ListHandle { base: 4096, limit: 4160, align: 8, ..counts });
     let again = ListLand::from_parts(handle, words);
     assert_eq!(again.ranges().collect::<Result<Vec<_>, _>>(), Ok(vec![range(4096, 4112)]));
     Ok(())
@@ -135,25 +136,165 @@ fn bad_pairs_are_refused() -> Result<(), Refusal> {
     let headless = ListHandle { head: 4100, ..sound.list };
     refused(PairHandle { list: headless, ..sound }, words, Refusal::Damaged);
     words[1] = 1;
-    let overlapping = ListHandle { head: 4104, ranges: 1, bytes: 8, ..sound.list };
+    let overlapping = ListHandle { head: 4104, ranges: 1, bytes: 8, filled: 1, low: 8, ..sound.list };
     refused(PairHandle { list: overlapping, ..sound }, words, Refusal::Damaged);
     Ok(())
 }
 
 #[test]
 fn bad_parts_are_refused() {
-    let handle = ListHandle { base: 4096, limit: 4160, align: 8, head: 4096, ranges: u64::MAX, bytes: 1 };
+    let arena = ListHandle { base: 4096, limit: 4160, align: 8, ..ListHandle::default() };
+    let handle = ListHandle { head: 4096, ranges: u64::MAX, bytes: 1, filled: 1, ..arena };
     let mut words = [u64::MAX; 8];
     let mut land = ListLand::from_parts(handle, &mut words);
     assert_eq!(land.insert(range(4096, 4104)), Err(Refusal::Damaged));
     assert_eq!(land.handle(), handle);
     let mut none = [];
     assert_eq!(ListLand::from_parts(handle, &mut none).walk(0), Err(Refusal::SetUp));
-    let table = BlockHandle { base: 4096, limit: 4160, align: 8, ranges: 1 << 63, bytes: 0 };
+    let table = BlockHandle { base: 4096, limit: 4160, align: 8, ranges: 1 << 63, ..BlockHandle::default() };
     let mut block = BlockLand::from_parts(table, &mut none);
     assert_eq!(block.find_largest(0, Mode::None), Err(Refusal::Damaged));
     assert_eq!(flush(&mut land, &mut block), Err(Refusal::Damaged));
     assert_eq!((land.handle(), block.handle()), (handle, table));
+}
+
+/// Free bytes and low water of both lands of a pair, the list's first.
+fn levels(pair: &Pair<'_>) -> [(u64, Option<u64>); 2] {
+    let PairHandle { list, block } = pair.handle();
+    [(list.bytes, pair.list().low_water()), (block.bytes, pair.block().low_water())]
+}
+
+#[test]
+fn low_water_of_a_list_land() -> Result<(), Refusal> {
+    let mut words = [0; 8];
+    let mut land = ListLand::open(4096, 4160, 8, &mut words)?;
+    assert_eq!((land.walk(0), land.find_last(8, Mode::Low)), (Err(Refusal::NoneFound), Err(Refusal::NoneFound)));
+    assert_eq!(land.low_water(), None);
+    land.insert(range(4096, 4144))?;
+    assert_eq!(land.low_water(), Some(48));
+    land.insert(range(4144, 4160))?;
+    assert_eq!(land.low_water(), Some(48));
+    land.delete(range(4096, 4120))?;
+    assert_eq!(land.low_water(), Some(40));
+    land.find_first(16, Mode::High)?;
+    assert_eq!(land.low_water(), Some(24));
+    land.insert(range(4096, 4112))?;
+    let before = land.handle();
+    assert_eq!((before.bytes, before.low_water()), (40, Some(24)));
+    land.find_largest(0, Mode::None)?;
+    assert_eq!((land.delete(range(4096, 4160)), land.handle()), (Err(Refusal::Overlap), before));
+    while land.find_last(8, Mode::Entire).is_ok() {}
+    assert_eq!((land.handle().bytes, land.low_water()), (0, Some(0)));
+    land.insert(range(4096, 4160))?;
+    assert_eq!((land.handle().bytes, land.low_water()), (64, Some(0)));
+    Ok(())
+}
+
+#[test]
+fn low_water_of_a_block_land() -> Result<(), Refusal> {
+    let mut nodes = [0; 4];
+    let mut land = BlockLand::open(4096, 4160, 8, &mut nodes)?;
+    assert_eq!((land.walk(0), land.low_water()), (Err(Refusal::NoneFound), None));
+    land.insert(range(4096, 4144))?;
+    land.insert(range(4152, 4160))?;
+    assert_eq!((land.handle().bytes, land.low_water()), (56, Some(48)));
+    land.delete(range(4096, 4120))?;
+    assert_eq!(land.low_water(), Some(32));
+    land.find_first(16, Mode::Low)?;
+    assert_eq!(land.low_water(), Some(16));
+    land.find_largest(0, Mode::High)?;
+    assert_eq!(land.low_water(), Some(8));
+    land.insert(range(4096, 4144))?;
+    land.find_last(8, Mode::None)?;
+    assert_eq!(land.insert(range(4096, 4104)), Err(Refusal::Overlap));
+    assert_eq!((land.handle().bytes, land.low_water()), (56, Some(8)));
+    Ok(())
+}
+
+/// A flush is one call on each land, and one that moves no range leaves both handles as they were.
+#[test]
+fn low_water_after_a_flush() -> Result<(), Refusal> {
+    let (mut words, mut nodes) = ([0; 8], [0; 6]);
+    let mut list = ListLand::open(4096, 4160, 8, &mut words)?;
+    let mut block = BlockLand::open(4096, 4160, 8, &mut nodes)?;
+    assert_eq!(flush(&mut list, &mut block)?.moved, 0);
+    assert_eq!((list.low_water(), block.low_water()), (None, None));
+    for base in [4096, 4112, 4128] {
+        list.insert(range(base, base + 8))?;
+    }
+    assert_eq!(flush(&mut list, &mut block)?.moved, 3);
+    assert_eq!((list.low_water(), block.low_water()), (Some(0), Some(24)));
+    list.insert(range(4144, 4152))?;
+    let before = (list.handle(), block.handle());
+    assert_eq!(flush(&mut list, &mut block)?, Flushed { moved: 0, stop: Some(Refusal::Full) });
+    assert_eq!((list.handle(), block.handle()), before);
+    Ok(())
+}
+
+/// Each land is read once, after the whole call on the pair: the inner flush of the last one empties the list, unread.
+#[test]
+fn low_water_of_a_pair() -> Result<(), Refusal> {
+    let (mut words, mut nodes) = ([0; 8], [0; 2]);
+    let mut pair = pair(&mut words, &mut nodes)?;
+    assert_eq!(levels(&pair), [(0, None), (0, None)]);
+    pair.insert(range(4096, 4104))?;
+    assert_eq!(levels(&pair), [(0, None), (8, Some(8))]);
+    pair.insert(range(4112, 4128))?;
+    assert_eq!(levels(&pair), [(16, Some(16)), (8, Some(8))]);
+    pair.delete(range(4096, 4104))?;
+    assert_eq!(levels(&pair), [(16, Some(16)), (0, Some(0))]);
+    pair.insert(range(4136, 4152))?;
+    assert_eq!(levels(&pair), [(16, Some(16)), (16, Some(0))]);
+    Ok(())
+}
+
+/// The handles of a list and of a block land with no ranges but this mark and low water.
+fn marked(filled: u64, low: u64) -> (ListHandle, BlockHandle) {
+    let list = ListHandle { base: 4096, limit: 4160, align: 8, filled, low, ..ListHandle::default() };
+    let block = BlockHandle { base: 4096, limit: 4160, align: 8, filled, low, ..BlockHandle::default() };
+    (list, block)
+}
+
+#[test]
+fn bad_marks_are_refused() {
+    let (mut words, mut nodes) = ([0; 8], [0; 2]);
+    for (filled, low, walked) in [
+        (0, 0, Refusal::NoneFound),
+        (1, 0, Refusal::NoneFound),
+        (0, 8, Refusal::Damaged),
+        (1, 8, Refusal::Damaged),
+        (2, 0, Refusal::Damaged),
+        (u64::MAX, 0, Refusal::Damaged),
+    ] {
+        let (list, block) = marked(filled, low);
+        let list = ListLand::from_parts(list, &mut words);
+        let block = BlockLand::from_parts(block, &mut nodes);
+        assert_eq!((list.walk(0), block.walk(0)), (Err(walked), Err(walked)));
+        assert_eq!(Pair::new(list, block).find_first(8, Mode::Low), Err(walked));
+    }
+}
+
+/// A land that is not empty: its mark is set, and low water is at most its free bytes.
+#[test]
+fn marks_of_a_land_with_ranges() {
+    let (mut words, mut nodes) = ([0, 4112, 0, 0, 0, 0, 0, 0], [4096, 4112]);
+    for (filled, low, sound) in [(0, 0, false), (0, 16, false), (1, 0, true), (1, 16, true), (1, 17, false)] {
+        let walked = if sound { Ok(range(4096, 4112)) } else { Err(Refusal::Damaged) };
+        let (list, block) = marked(filled, low);
+        let list = ListHandle { head: 4096, ranges: 1, bytes: 16, ..list };
+        let block = BlockHandle { ranges: 1, bytes: 16, ..block };
+        assert_eq!(ListLand::from_parts(list, &mut words).walk(0), walked);
+        assert_eq!(BlockLand::from_parts(block, &mut nodes).walk(0), walked);
+    }
+}
+
+/// Only a mark of 1 is set.
+#[test]
+fn low_water_in_a_handle() {
+    for (filled, low_water) in [(0, None), (1, Some(24)), (2, None)] {
+        let (list, block) = marked(filled, 24);
+        assert_eq!((list.low_water(), block.low_water()), (low_water, low_water));
+    }
 }
 
 #[test]

@@ -3,6 +3,7 @@
 use crate::answer::{ACCEPTED, DAMAGED, SET_UP};
 use crate::arena::{Arena, Range};
 use crate::call::{Call, Done, Opened};
+use crate::low_water::LowWater;
 use crate::set;
 
 /// Node space is at most this number of words.
@@ -21,18 +22,36 @@ pub struct BlockHandle {
     pub ranges: u64,
     /// The number of free bytes.
     pub bytes: u64,
+    /// The mark.
+    pub filled: u64,
+    /// Low water.
+    pub low: u64,
 }
 
 impl BlockHandle {
-    /// The handle of these isolated ranges.
+    /// The handle of these isolated ranges on a land whose one accepted call left them; with no ranges, of a new land.
     pub fn of(arena: &Arena, ranges: &[Range]) -> BlockHandle {
+        BlockHandle::default().after(arena, ranges)
+    }
+
+    /// The next handle after an accepted call that left these isolated ranges.
+    pub(crate) fn after(&self, arena: &Arena, ranges: &[Range]) -> BlockHandle {
+        let bytes = set::bytes(ranges);
+        let LowWater { filled, low } = self.low_water().noted(bytes);
         BlockHandle {
             base: arena.base(),
             limit: arena.limit(),
             align: arena.align(),
             ranges: ranges.len() as u64,
-            bytes: set::bytes(ranges),
+            bytes,
+            filled,
+            low,
         }
+    }
+
+    /// The mark and the low water.
+    pub fn low_water(&self) -> LowWater {
+        LowWater { filled: self.filled, low: self.low }
     }
 }
 
@@ -52,8 +71,8 @@ fn pairs(nodes: &[u64]) -> impl Iterator<Item = Range> + '_ {
 }
 
 /// The ranges of the table, or nothing if it is not sound: the count is at most the capacity, all pair words from the
-/// range count on are 0, the ranges are in address order, aligned, non-empty, inside the arena and separated, and the
-/// byte count is their sum.
+/// range count on are 0, the ranges are in address order, aligned, non-empty, inside the arena and separated, the byte
+/// count is their sum, and the handle's mark and low water are sound.
 pub fn read(arena: &Arena, handle: &BlockHandle, nodes: &[u64]) -> Option<Vec<Range>> {
     if handle.ranges > capacity(nodes) {
         return None;
@@ -63,8 +82,8 @@ pub fn read(arena: &Arena, handle: &BlockHandle, nodes: &[u64]) -> Option<Vec<Ra
     let rest = pairs(nodes).skip(count).all(|pair| pair == Range::NOTHING);
     let allowed = ranges.iter().all(|range| arena.allows_range(*range));
     let separated = ranges.windows(2).all(|two| two[0].limit < two[1].base);
-    let sound = rest && allowed && separated && handle.bytes == set::bytes(&ranges);
-    sound.then_some(ranges)
+    let counted = rest && allowed && separated && handle.bytes == set::bytes(&ranges);
+    (counted && handle.low_water().sound(handle.bytes)).then_some(ranges)
 }
 
 /// Writes the pair words of these isolated ranges: all from the range count on are 0. An odd last word is never
@@ -78,7 +97,7 @@ pub fn write(ranges: &[Range], nodes: &mut [u64]) {
     }
 }
 
-/// Opening a block land. It sets all its pair words to 0, and a new land has no ranges.
+/// Opening a block land. It sets all its pair words to 0; a new land has no ranges, no mark and low water 0.
 pub fn open(base: u64, limit: u64, align: u64, nodes: &mut [u64]) -> Opened<BlockHandle> {
     match arena(base, limit, align, nodes) {
         Some(arena) => {
@@ -103,7 +122,7 @@ pub fn call(handle: BlockHandle, nodes: &mut [u64], call: &Call) -> Done<BlockHa
         Err(answer) => Done::refused(handle, answer),
         Ok((arena, step)) => {
             write(&step.after, nodes);
-            Done { land: BlockHandle::of(&arena, &step.after), answer: ACCEPTED, range: step.range, old: step.old }
+            Done { land: handle.after(&arena, &step.after), answer: ACCEPTED, range: step.range, old: step.old }
         }
     }
 }

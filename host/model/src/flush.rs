@@ -68,7 +68,7 @@ pub(crate) fn moved(arena: &Arena, capacity: u64, listed: &[Range], tabled: &[Ra
 }
 
 /// Moves the list's ranges into the block land. Returns the number moved and the refusal that stopped it, or 0. The
-/// flush itself is then answered 0.
+/// flush itself is then answered 0, and counts as one accepted call on each land.
 pub fn flush(list: ListHandle, words: &mut [u64], block: BlockHandle, nodes: &mut [u64]) -> Flushed {
     let (arena, listed, tabled) = match look(&list, words, &block, nodes) {
         Ok(looked) => looked,
@@ -79,8 +79,8 @@ pub fn flush(list: ListHandle, words: &mut [u64], block: BlockHandle, nodes: &mu
     list::write(&arena, left, words);
     block::write(&tabled, nodes);
     Flushed {
-        list: ListHandle::of(&arena, left),
-        block: BlockHandle::of(&arena, &tabled),
+        list: list.after(&arena, left),
+        block: block.after(&arena, &tabled),
         answer: ACCEPTED,
         moved: number as u64,
         stop,

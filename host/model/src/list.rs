@@ -3,6 +3,7 @@
 use crate::answer::{ACCEPTED, DAMAGED, SET_UP};
 use crate::arena::{Arena, Range};
 use crate::call::{Call, Done, Opened};
+use crate::low_water::LowWater;
 use crate::set;
 
 /// A list handle.
@@ -20,19 +21,37 @@ pub struct ListHandle {
     pub ranges: u64,
     /// The number of free bytes.
     pub bytes: u64,
+    /// The mark.
+    pub filled: u64,
+    /// Low water.
+    pub low: u64,
 }
 
 impl ListHandle {
-    /// The handle of these isolated ranges.
+    /// The handle of these isolated ranges on a land whose one accepted call left them; with no ranges, of a new land.
     pub fn of(arena: &Arena, ranges: &[Range]) -> ListHandle {
+        ListHandle::default().after(arena, ranges)
+    }
+
+    /// The next handle after an accepted call that left these isolated ranges.
+    pub(crate) fn after(&self, arena: &Arena, ranges: &[Range]) -> ListHandle {
+        let bytes = set::bytes(ranges);
+        let LowWater { filled, low } = self.low_water().noted(bytes);
         ListHandle {
             base: arena.base(),
             limit: arena.limit(),
             align: arena.align(),
             head: ranges.first().map_or(0, |first| first.base),
             ranges: ranges.len() as u64,
-            bytes: set::bytes(ranges),
+            bytes,
+            filled,
+            low,
         }
+    }
+
+    /// The mark and the low water.
+    pub fn low_water(&self) -> LowWater {
+        LowWater { filled: self.filled, low: self.low }
     }
 }
 
@@ -54,8 +73,8 @@ fn descriptor(arena: &Arena, words: &[u64], base: u64) -> Option<(Range, u64)> {
 }
 
 /// The ranges that the walk from head meets, or nothing if the list is not sound: ascending ranges, each base above the
-/// previous limit, each inside the arena and aligned, each tagged by its true length, the last with next 0, and the
-/// handle's two counts equal the number met and the sum of their lengths.
+/// previous limit, each inside the arena and aligned, each tagged by its true length, the last with next 0, the
+/// handle's two counts equal the number met and the sum of their lengths, and its mark and low water are sound.
 pub fn read(arena: &Arena, handle: &ListHandle, words: &[u64]) -> Option<Vec<Range>> {
     let mut met: Vec<Range> = Vec::new();
     let mut base = handle.head;
@@ -73,7 +92,7 @@ pub fn read(arena: &Arena, handle: &ListHandle, words: &[u64]) -> Option<Vec<Ran
         base = next;
     }
     let counted = handle.ranges == met.len() as u64 && handle.bytes == set::bytes(&met);
-    counted.then_some(met)
+    (counted && handle.low_water().sound(handle.bytes)).then_some(met)
 }
 
 /// Writes the words of the descriptors of these isolated ranges, and no other. A block's first word is the next range's
@@ -91,7 +110,7 @@ pub fn write(arena: &Arena, ranges: &[Range], words: &mut [u64]) {
     }
 }
 
-/// Opening a list land. It writes no word, and a new land has no ranges.
+/// Opening a list land. It writes no word; a new land has no ranges, no mark and low water 0.
 pub fn open(base: u64, limit: u64, align: u64, words: &[u64]) -> Opened<ListHandle> {
     match arena(base, limit, align, words) {
         Some(arena) => Opened { land: ListHandle::of(&arena, &[]), answer: ACCEPTED },
@@ -113,7 +132,7 @@ pub fn call(handle: ListHandle, words: &mut [u64], call: &Call) -> Done<ListHand
         Err(answer) => Done::refused(handle, answer),
         Ok((arena, step)) => {
             write(&arena, &step.after, words);
-            Done { land: ListHandle::of(&arena, &step.after), answer: ACCEPTED, range: step.range, old: step.old }
+            Done { land: handle.after(&arena, &step.after), answer: ACCEPTED, range: step.range, old: step.old }
         }
     }
 }

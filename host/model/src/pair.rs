@@ -5,7 +5,8 @@
 //! * [`ledger`]: the ledger of a pair
 //!
 //! Checked in the order 5 of the list, 5 of the block land, their difference, 6 of the list, 6 of the block land, 6 of
-//! overlapping lands, 4, 1 or 2, 7. A refusal returns ranges (0, 0) and the pair given, and changes no word.
+//! overlapping lands, 4, 1 or 2, 7. A refusal returns ranges (0, 0) and the pair given, and changes no word. Each land
+//! keeps its own low water, read after each accepted call: what an inner flush leaves for a moment is not read.
 //!
 //! ```
 //! use limbegoru_model::{block, list, pair, Pair, Range};
@@ -40,10 +41,10 @@ pub struct Pair {
 }
 
 impl Pair {
-    /// The handles of these lands.
-    fn of(lands: &Lands) -> Pair {
-        let list = ListHandle::of(&lands.arena, &lands.list);
-        let block = BlockHandle::of(&lands.arena, &lands.block);
+    /// The next handles after an accepted call that left these lands.
+    fn after(&self, lands: &Lands) -> Pair {
+        let list = self.list.after(&lands.arena, &lands.list);
+        let block = self.block.after(&lands.arena, &lands.block);
         Pair { list, block }
     }
 }
@@ -124,7 +125,7 @@ fn leave(pair: Pair, words: &mut [u64], nodes: &mut [u64], step: Result<Step, u6
         Ok(Step { after, range, old }) => {
             list::write(&after.arena, &after.list, words);
             block::write(&after.block, nodes);
-            Found { pair: Pair::of(&after), answer: ACCEPTED, range, old }
+            Found { pair: pair.after(&after), answer: ACCEPTED, range, old }
         }
     }
 }

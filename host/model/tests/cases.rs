@@ -50,6 +50,7 @@ impl Session {
         assert_eq!(feed(&mut self.ledger, &call), (answer, range, old));
         let ranges = list::read(&arena(), &land, &self.words);
         assert_eq!(ranges, Some(self.ledger.isolated()));
+        assert_eq!(land.low_water(), self.ledger.low_water());
         self.land = land;
         (answer, range, old)
     }
@@ -83,7 +84,7 @@ fn cases_1_to_8() {
     let left = range(4096, 4104);
     assert_eq!(session.call(Call::Find(Find::Largest, 0, MODE_NONE)), (0, left, left));
     assert_eq!(session.call(Call::Find(Find::First, 16, MODE_NONE)), (2, NOTHING, NOTHING));
-    let land = ListHandle { base: BASE, limit: LIMIT, align: 8, head: 4096, ranges: 1, bytes: 8 };
+    let land = ListHandle { base: BASE, limit: LIMIT, align: 8, head: 4096, ranges: 1, bytes: 8, filled: 1, low: 8 };
     assert_eq!(session.land, land);
 }
 
@@ -113,7 +114,7 @@ fn cases_9_and_10() {
     let touching = Call::Insert(range(4104, 4112));
     let merged = range(4096, 4112);
     let done = block::call(refused.land, &mut nodes, &touching);
-    let next = BlockHandle { base: BASE, limit: LIMIT, align: 8, ranges: 1, bytes: 16 };
+    let next = BlockHandle { base: BASE, limit: LIMIT, align: 8, ranges: 1, bytes: 16, filled: 1, low: 8 };
     assert_eq!(done, Done { land: next, answer: 0, range: merged, old: NOTHING });
     assert_eq!(feed(&mut ledger, &touching), (0, merged, NOTHING));
     assert_eq!(nodes, [4096, 4112]);

@@ -134,6 +134,7 @@ fn largest() {
 #[test]
 fn unsound_lists() {
     let (land, words) = list_of(&[range(4096, 4112), range(4120, 4128)]);
+    let land = ListHandle { low: 0, ..land };
     let with = |number: usize, value: u64| {
         let mut words = words.clone();
         words[number] = value;
@@ -213,7 +214,7 @@ fn flushes() {
     let flushed = flush::flush(list, &mut words, block, &mut nodes);
     assert_eq!((flushed.answer, flushed.moved, flushed.stop), (0, 2, 3));
     assert_eq!((nodes, words), (vec![4096, 4128], before.clone()));
-    assert_eq!(flushed.list, ListHandle { head: 4144, ranges: 1, bytes: 8, ..list });
+    assert_eq!(flushed.list, ListHandle { head: 4144, ranges: 1, bytes: 8, low: 8, ..list });
     assert_eq!(flushed.block, BlockHandle { ranges: 1, bytes: 32, ..block });
 
     let (block, mut nodes) = block_of(&[range(4112, 4120)], 6);

@@ -1,4 +1,5 @@
 //! Request K4: its worked examples with every handle, word and range, each answer number, and the order of the checks.
+//! The example of request K10 for a pair.
 
 use limbegoru_model::call::{Call, Find, MODE_ENTIRE, MODE_HIGH, MODE_LOW, MODE_NONE};
 use limbegoru_model::pair::{self, Changed, Found};
@@ -21,67 +22,65 @@ fn arena() -> Arena {
     Arena::new(BASE, LIMIT, 8).unwrap()
 }
 
-/// The handles with these heads and counts.
-fn handles([head, listed, list_bytes]: [u64; 3], [tabled, block_bytes]: [u64; 2]) -> Pair {
-    Pair {
-        list: ListHandle { base: BASE, limit: LIMIT, align: 8, head, ranges: listed, bytes: list_bytes },
-        block: BlockHandle { base: BASE, limit: LIMIT, align: 8, ranges: tabled, bytes: block_bytes },
-    }
+/// The handles with this head, these counts, marks and low waters.
+fn handles(list: [u64; 5], block: [u64; 4]) -> Pair {
+    let (base, limit, align) = (BASE, LIMIT, 8);
+    let [head, ranges, bytes, filled, low] = list;
+    let list = ListHandle { base, limit, align, head, ranges, bytes, filled, low };
+    let [ranges, bytes, filled, low] = block;
+    Pair { list, block: BlockHandle { base, limit, align, ranges, bytes, filled, low } }
 }
 
-/// A pair with its two memories.
+/// A pair with its two memories, and its ledger, if both lands are sound and do not overlap.
 #[derive(Clone, Debug, PartialEq)]
 struct State {
     pair: Pair,
     words: Vec<u64>,
     nodes: Vec<u64>,
+    ledger: Option<PairLedger>,
 }
 
 impl State {
-    /// The lands of these ranges, with so many node words.
+    /// The lands of these ranges, put in by one call, with so many node words.
     fn of(list: &[Range], block: &[Range], node_words: usize) -> State {
         let mut words = vec![F; 8];
         list::write(&arena(), list, &mut words);
         let mut nodes = vec![F; node_words];
         block::write(block, &mut nodes);
         let pair = Pair { list: ListHandle::of(&arena(), list), block: BlockHandle::of(&arena(), block) };
-        State { pair, words, nodes }
+        let ledger = PairLedger::holding(arena(), node_words as u64 / 2, list, block);
+        State { pair, words, nodes, ledger }
     }
 
-    /// The ledger of the lands.
-    fn ledger(&self) -> PairLedger {
-        let list = list::read(&arena(), &self.pair.list, &self.words).unwrap();
-        let block = block::read(&arena(), &self.pair.block, &self.nodes).unwrap();
-        PairLedger::holding(arena(), block::capacity(&self.nodes), &list, &block).unwrap()
+    /// The ledger of a sound pair.
+    fn ledger(&mut self) -> &mut PairLedger {
+        self.ledger.as_mut().expect("both lands are sound and do not overlap")
     }
 
     /// An insert, and that the ledger says the same.
     fn insert(&mut self, range: Range) -> Changed {
-        let mut ledger = self.ledger();
-        let entry = ledger.insert(range);
+        let entry = self.ledger().insert(range);
         let changed = pair::insert(self.pair, &mut self.words, &mut self.nodes, range);
         assert_eq!((changed.answer, changed.range, NOTHING), (entry.answer, entry.range, entry.old));
-        self.leave(changed.pair, &ledger);
+        self.leave(changed.pair);
         changed
     }
 
     /// A delete, and that the ledger says the same.
     fn delete(&mut self, range: Range) -> Changed {
-        let mut ledger = self.ledger();
-        let entry = ledger.delete(range);
+        let entry = self.ledger().delete(range);
         let changed = pair::delete(self.pair, &mut self.words, &mut self.nodes, range);
         assert_eq!((changed.answer, changed.range, NOTHING), (entry.answer, entry.range, entry.old));
-        self.leave(changed.pair, &ledger);
+        self.leave(changed.pair);
         changed
     }
 
     /// A find, and that the ledger says the same.
     fn find(&mut self, find: Find, size: u64, mode: u64) -> Found {
-        let mut ledger = self.ledger();
-        let entry = ledger.find(find, size, mode);
+        let entry = self.ledger().find(find, size, mode);
         let found = self.found(find, size, mode);
         assert_eq!((found.answer, found.range, found.old), (entry.answer, entry.range, entry.old));
-        self.leave(found.pair, &ledger);
+        self.leave(found.pair);
         found
     }
 
@@ -95,12 +94,15 @@ impl State {
         }
     }
 
-    /// Keeps the next handles, which give the ledger's ranges.
-    fn leave(&mut self, next: Pair, ledger: &PairLedger) {
+    /// Keeps the next handles, which give the ledger's ranges, marks and low waters.
+    fn leave(&mut self, next: Pair) {
         self.pair = next;
         let list = list::read(&arena(), &next.list, &self.words);
         let block = block::read(&arena(), &next.block, &self.nodes);
+        let ledger = self.ledger();
         assert_eq!((list, block), (Some(ledger.list().isolated()), Some(ledger.block().isolated())));
+        assert_eq!(next.list.low_water(), ledger.list().low_water());
+        assert_eq!(next.block.low_water(), ledger.block().low_water());
     }
 
     /// The answer of a call; a refusal gives the pair back with ranges (0, 0) and changes nothing.
@@ -130,10 +132,10 @@ impl State {
 #[test]
 fn k4_3_the_flush_may_use_up_the_room() {
     let mut state = State::of(&[range(4096, 4104)], &[], 2);
-    assert_eq!(state.pair, handles([4096, 1, 8], [0, 0]));
+    assert_eq!(state.pair, handles([4096, 1, 8, 1, 8], [0, 0, 0, 0]));
     assert_eq!((&state.words[..], &state.nodes[..]), (&[1, F, F, F, F, F, F, F][..], &[0, 0][..]));
 
-    let pair = handles([4112, 1, 16], [1, 8]);
+    let pair = handles([4112, 1, 16, 1, 8], [1, 8, 1, 8]);
     let range = range(4112, 4128);
     assert_eq!(state.insert(range), Changed { pair, answer: 0, range });
     assert_eq!(state.words, [1, F, 0, 4128, F, F, F, F]);
@@ -143,13 +145,13 @@ fn k4_3_the_flush_may_use_up_the_room() {
 #[test]
 fn k4_3_no_second_flush() {
     let mut state = State::of(&[range(4136, 4144)], &[range(4096, 4104), range(4112, 4120)], 5);
-    let pair = handles([4136, 1, 8], [1, 24]);
+    let pair = handles([4136, 1, 8, 1, 8], [1, 24, 1, 16]);
     assert_eq!(state.insert(range(4104, 4112)), Changed { pair, answer: 0, range: range(4096, 4120) });
     assert_eq!(state.words, [F, F, F, F, F, 1, F, F]);
     assert_eq!(state.nodes, [4096, 4120, 0, 0, F]);
 
     // The next insert flushes, which uses up the room again.
-    let pair = handles([4152, 1, 8], [2, 32]);
+    let pair = handles([4152, 1, 8, 1, 8], [2, 32, 1, 16]);
     assert_eq!(state.insert(range(4152, 4160)), Changed { pair, answer: 0, range: range(4152, 4160) });
     assert_eq!(state.words, [F, F, F, F, F, 1, F, 1]);
     assert_eq!(state.nodes, [4096, 4120, 4136, 4144, F]);
@@ -159,7 +161,7 @@ fn k4_3_no_second_flush() {
 fn the_flush_stops_at_the_first_refusal() {
     // The second list range would merge with the block land's, but the first is refused.
     let mut state = State::of(&[range(4096, 4104), range(4128, 4136)], &[range(4136, 4144)], 2);
-    let pair = handles([4096, 2, 24], [1, 8]);
+    let pair = handles([4096, 2, 24, 1, 16], [1, 8, 1, 8]);
     assert_eq!(state.insert(range(4104, 4112)), Changed { pair, answer: 0, range: range(4096, 4112) });
     assert_eq!(state.words, [4128, 4112, F, F, 1, F, F, F]);
     assert_eq!(state.nodes, [4136, 4144]);
@@ -168,7 +170,7 @@ fn the_flush_stops_at_the_first_refusal() {
 #[test]
 fn capacity_0() {
     let mut state = State::of(&[range(4112, 4120)], &[], 1);
-    let pair = handles([4096, 1, 24], [0, 0]);
+    let pair = handles([4096, 1, 24, 1, 8], [0, 0, 0, 0]);
     assert_eq!(state.insert(range(4096, 4112)), Changed { pair, answer: 0, range: range(4096, 4120) });
     assert_eq!(state.words, [0, 4120, 1, F, F, F, F, F]);
     assert_eq!(state.nodes, [F]);
@@ -177,10 +179,10 @@ fn capacity_0() {
 #[test]
 fn k4_5_the_upper_fragment_goes_to_the_list() {
     let mut state = State::of(&[range(4120, 4128)], &[range(4096, 4120)], 2);
-    assert_eq!(state.pair, handles([4120, 1, 8], [1, 24]));
+    assert_eq!(state.pair, handles([4120, 1, 8, 1, 8], [1, 24, 1, 24]));
     assert_eq!((&state.words[..], &state.nodes[..]), (&[F, F, F, 1, F, F, F, F][..], &[4096, 4120][..]));
 
-    let pair = handles([4112, 1, 16], [1, 8]);
+    let pair = handles([4112, 1, 16, 1, 8], [1, 8, 1, 8]);
     assert_eq!(state.delete(range(4104, 4112)), Changed { pair, answer: 0, range: range(4096, 4120) });
     assert_eq!(state.words, [F, F, 0, 4128, F, F, F, F]);
     assert_eq!(state.nodes, [4096, 4104]);
@@ -191,14 +193,14 @@ fn k4_5_with_nothing_to_merge_and_with_room() {
     let listed = [range(4096, 4104), range(4152, 4160)];
     let tabled = [range(4104, 4136)];
     let mut full = State::of(&listed, &tabled, 3);
-    let pair = handles([4096, 3, 32], [1, 8]);
+    let pair = handles([4096, 3, 32, 1, 16], [1, 8, 1, 8]);
     assert_eq!(full.delete(range(4112, 4120)), Changed { pair, answer: 0, range: tabled[0] });
     assert_eq!(full.words, [4121, F, F, 4152, 4136, F, F, 1]);
     assert_eq!(full.nodes, [4104, 4112, F]);
 
     let mut room = State::of(&listed, &tabled, 4);
     let words = room.words.clone();
-    let pair = handles([4096, 2, 16], [2, 24]);
+    let pair = handles([4096, 2, 16, 1, 16], [2, 24, 1, 24]);
     assert_eq!(room.delete(range(4112, 4120)), Changed { pair, answer: 0, range: tabled[0] });
     assert_eq!(room.words, words);
     assert_eq!(room.nodes, [4104, 4112, 4120, 4136]);
@@ -207,7 +209,7 @@ fn k4_5_with_nothing_to_merge_and_with_room() {
 #[test]
 fn a_delete_from_the_list_touches_no_node() {
     let mut state = State::of(&[range(4120, 4144)], &[range(4096, 4120)], 2);
-    let pair = handles([4120, 2, 16], [1, 24]);
+    let pair = handles([4120, 2, 16, 1, 16], [1, 24, 1, 24]);
     assert_eq!(state.delete(range(4128, 4136)), Changed { pair, answer: 0, range: range(4120, 4144) });
     assert_eq!(state.words, [F, F, F, 4137, 4144, 1, F, F]);
     assert_eq!(state.nodes, [4096, 4120]);
@@ -221,25 +223,25 @@ fn k4_6_first_and_last() {
 
     let mut state = before.clone();
     let found = state.find(Find::First, 8, MODE_ENTIRE);
-    let pair = handles([4128, 1, 16], [2, 24]);
+    let pair = handles([4128, 1, 16, 1, 16], [2, 24, 1, 24]);
     assert_eq!(found, Found { pair, answer: 0, range: listed[0], old: listed[0] });
     assert_eq!((&state.words, &state.nodes), (&before.words, &before.nodes));
 
     let mut state = before.clone();
     let found = state.find(Find::First, 16, MODE_HIGH);
-    let pair = handles([4096, 2, 24], [1, 8]);
+    let pair = handles([4096, 2, 24, 1, 24], [1, 8, 1, 8]);
     assert_eq!(found, Found { pair, answer: 0, range: tabled[0], old: tabled[0] });
     assert_eq!((&state.words, &state.nodes[..]), (&before.words, &[4152, 4160, 0, 0][..]));
 
     let mut state = before.clone();
     let found = state.find(Find::Last, 8, MODE_LOW);
-    let pair = handles([4096, 2, 24], [1, 16]);
+    let pair = handles([4096, 2, 24, 1, 24], [1, 16, 1, 16]);
     assert_eq!(found, Found { pair, answer: 0, range: tabled[1], old: tabled[1] });
     assert_eq!((&state.words, &state.nodes[..]), (&before.words, &[4112, 4128, 0, 0][..]));
 
     let mut state = State::of(&listed, &tabled[..1], 2);
     let found = state.find(Find::Last, 8, MODE_LOW);
-    let pair = handles([4096, 2, 16], [1, 16]);
+    let pair = handles([4096, 2, 16, 1, 16], [1, 16, 1, 16]);
     assert_eq!(found, Found { pair, answer: 0, range: range(4128, 4136), old: listed[1] });
     assert_eq!((&state.words[..], &state.nodes[..]), (&[4137, F, F, F, 0, 1, F, F][..], &[4112, 4128][..]));
 }
@@ -250,10 +252,16 @@ fn k4_6_one_land_has_none() {
     for find in [Find::First, Find::Last, Find::Largest] {
         let mut of_list = State::of(&[only], &[range(4096, 4104)], 2);
         let found = of_list.find(find, 16, MODE_NONE);
-        assert_eq!(found, Found { pair: handles([4112, 1, 24], [1, 8]), answer: 0, range: only, old: only });
+        assert_eq!(
+            found,
+            Found { pair: handles([4112, 1, 24, 1, 24], [1, 8, 1, 8]), answer: 0, range: only, old: only }
+        );
         let mut of_block = State::of(&[range(4144, 4152)], &[only], 2);
         let found = of_block.find(find, 16, MODE_NONE);
-        assert_eq!(found, Found { pair: handles([4144, 1, 8], [1, 24]), answer: 0, range: only, old: only });
+        assert_eq!(
+            found,
+            Found { pair: handles([4144, 1, 8, 1, 8], [1, 24, 1, 24]), answer: 0, range: only, old: only }
+        );
     }
 }
 
@@ -264,11 +272,11 @@ fn k4_7_largest() {
     {
         for mode in [MODE_NONE, MODE_LOW, MODE_HIGH, MODE_ENTIRE] {
             let mut state = State::of(&[listed], &[tabled], 2);
-            let (before, bytes) = (state.pair, largest.length());
+            let before = state.pair;
             let found = state.find(Find::Largest, 8, mode);
             assert_eq!((found.answer, found.range, found.old), (0, largest, largest));
-            let list = ListHandle { head: 0, ranges: 0, bytes: before.list.bytes.saturating_sub(bytes), ..before.list };
-            let block = BlockHandle { ranges: 0, bytes: before.block.bytes.saturating_sub(bytes), ..before.block };
+            let list = ListHandle { head: 0, ranges: 0, bytes: 0, low: 0, ..before.list };
+            let block = BlockHandle { ranges: 0, bytes: 0, low: 0, ..before.block };
             let next = match mode {
                 MODE_NONE => before,
                 _ if largest == listed => Pair { list, ..before },
@@ -282,7 +290,7 @@ fn k4_7_largest() {
 #[test]
 fn k4_8_touching_ranges_are_not_joined() {
     let mut state = State::of(&[range(4112, 4120)], &[range(4096, 4104)], 2);
-    let pair = handles([4112, 1, 8], [1, 16]);
+    let pair = handles([4112, 1, 8, 1, 8], [1, 16, 1, 8]);
     assert_eq!(state.insert(range(4104, 4112)), Changed { pair, answer: 0, range: range(4096, 4112) });
     assert_eq!((&state.words[..4], &state.nodes[..]), (&[F, F, 1, F][..], &[4096, 4112][..]));
 }
@@ -293,10 +301,10 @@ fn k4_9_no_flush() {
     assert_eq!(state.answer(Call::Insert(range(4112, 4116))), 4);
     assert_eq!(state.answer(Call::Insert(range(4112, 4128))), 1);
     let mut deleted = state.clone();
-    let pair = handles([4120, 1, 8], [1, 8]);
+    let pair = handles([4120, 1, 8, 1, 8], [1, 8, 1, 8]);
     assert_eq!(deleted.delete(range(4096, 4104)), Changed { pair, answer: 0, range: range(4096, 4112) });
     let mut found = state.clone();
-    let pair = handles([0, 0, 0], [1, 16]);
+    let pair = handles([0, 0, 0, 1, 0], [1, 16, 1, 16]);
     let old = range(4120, 4128);
     assert_eq!(found.find(Find::Last, 8, MODE_ENTIRE), Found { pair, answer: 0, range: old, old });
     assert_eq!((&found.words, &found.nodes), (&state.words, &state.nodes));
@@ -307,7 +315,7 @@ fn k4_11_and_16_a_run_across_both_lands() {
     for node_words in [2, 3, 6] {
         let mut state = State::of(&[range(4112, 4120)], &[range(4096, 4112)], node_words);
         let before = state.clone();
-        let pair = handles([4112, 1, 8], [1, 16]);
+        let pair = handles([4112, 1, 8, 1, 8], [1, 16, 1, 16]);
         assert_eq!(state.pair, pair);
         assert_eq!((&state.words[..], &state.nodes[..2]), (&[F, F, 1, F, F, F, F, F][..], &[4096, 4112][..]));
 
@@ -435,6 +443,30 @@ fn k4_15_overlapping_lands() {
     let touching = State::of(&[range(4104, 4112), range(4136, 4144)], &[held], 2);
     assert_eq!(touching.answer(Call::Delete(held)), 0);
     assert_eq!(touching.answer(Call::Find(Find::Largest, 24, MODE_NONE)), 0);
+}
+
+#[test]
+fn k10_3_low_water_of_a_pair() {
+    // From openings, at capacity 1.
+    let mut state = State::of(&[], &[], 2);
+    let list = list::open(BASE, LIMIT, 8, &state.words).land;
+    let block = block::open(BASE, LIMIT, 8, &mut state.nodes).land;
+    assert_eq!((state.pair, Pair { list, block }), (handles([0; 5], [0; 4]), state.pair));
+    state.insert(range(4096, 4104));
+    assert_eq!(state.pair, handles([0; 5], [1, 8, 1, 8]));
+    state.insert(range(4112, 4128));
+    assert_eq!(state.pair, handles([4112, 1, 16, 1, 16], [1, 8, 1, 8]));
+    state.delete(range(4096, 4104));
+    assert_eq!(state.pair, handles([4112, 1, 16, 1, 16], [0, 0, 1, 0]));
+
+    // The inner flush empties the list for a moment, then 16 bytes go into it.
+    let pair = handles([4136, 1, 16, 1, 16], [1, 16, 1, 0]);
+    assert_eq!(state.insert(range(4136, 4152)), Changed { pair, answer: 0, range: range(4136, 4152) });
+
+    // The next inner flush moves none; the block land does not change.
+    assert_eq!(state.insert(range(4096, 4104)).pair, handles([4096, 2, 24, 1, 16], [1, 16, 1, 0]));
+    assert_eq!(state.delete(range(4136, 4144)).pair, handles([4096, 2, 16, 1, 16], [1, 16, 1, 0]));
+    assert_eq!(state.delete(range(4096, 4104)).pair, handles([4144, 1, 8, 1, 8], [1, 16, 1, 0]));
 }
 
 #[test]

@@ -1,9 +1,11 @@
-//! Request K4: all calls on all small pairs, drawn histories, and damaged pairs.
+//! Requests K4 and K10: all calls on all small pairs, drawn histories, and damaged pairs.
 
 use limbegoru_model::call::{Call, Find, MODE_ENTIRE, MODE_NONE};
 use limbegoru_model::ledger::Entry;
 use limbegoru_model::pair::{self, Found};
-use limbegoru_model::{block, flush, list, set, Arena, BlockHandle, Done, ListHandle, Pair, PairLedger, Range};
+use limbegoru_model::{
+    block, flush, list, set, Arena, BlockHandle, Done, ListHandle, LowWater, Pair, PairLedger, Range,
+};
 
 /// The words that are no descriptor, and an odd last node word.
 const FILL: u64 = 0x7777_7777_7777_7777;
@@ -56,7 +58,7 @@ impl Tally {
 }
 
 impl State {
-    /// The lands of these ranges, with so many node words.
+    /// The lands of these ranges, put in by one call, with so many node words.
     fn of(arena: &Arena, list: &[Range], block: &[Range], node_words: usize) -> State {
         let mut words = vec![FILL; arena.words() as usize];
         list::write(arena, list, &mut words);
@@ -100,6 +102,15 @@ impl State {
         let Done { land, answer, range, old } = block::call(self.pair.block, &mut self.nodes, call);
         self.pair.block = land;
         Entry { answer, range, old }
+    }
+
+    /// Low water as an accepted call on that pair leaves it, whatever was read inside the call.
+    fn read_once_after(&mut self, before: &Pair) {
+        let Pair { list, block } = &mut self.pair;
+        let LowWater { filled, low } = before.list.low_water().noted(list.bytes);
+        *list = ListHandle { filled, low, ..*list };
+        let LowWater { filled, low } = before.block.low_water().noted(block.bytes);
+        *block = BlockHandle { filled, low, ..*block };
     }
 
     /// An accepted call of the pair, put together from calls of the lands on their words.
@@ -172,15 +183,17 @@ fn traffic(call: &Call, entry: &Entry) -> (u64, u64) {
     }
 }
 
-/// A call on a sound pair, with all that holds of it: the ledger says the same, a refusal changes nothing, free bytes
-/// are those before, plus in, less out, the lands do not overlap, and the words are those that the lands' own calls
-/// leave.
+/// A call on a sound pair, with all that holds of it: the ledger says the same, of low water too, a refusal changes
+/// nothing, free bytes are those before, plus in, less out, the lands do not overlap, and the words are those that the
+/// lands' own calls leave.
 fn check(arena: &Arena, state: &mut State, ledger: &mut PairLedger, call: &Call) -> Entry {
     let before = state.clone();
     let entry = state.call(call);
     assert_eq!(entry, feed(ledger, call), "{before:?} {call:?}");
     let (list, block) = state.read(arena).expect("both lands are sound");
     assert_eq!((&list, &block), (&ledger.list().isolated(), &ledger.block().isolated()), "{before:?} {call:?}");
+    let low_waters = (state.pair.list.low_water(), state.pair.block.low_water());
+    assert_eq!(low_waters, (ledger.list().low_water(), ledger.block().low_water()), "{before:?} {call:?}");
     assert_ne!(entry.answer, 3);
     if entry.answer != 0 {
         assert_eq!((&*state, entry.range, entry.old), (&before, Range::NOTHING, Range::NOTHING), "{call:?}");
@@ -193,6 +206,7 @@ fn check(arena: &Arena, state: &mut State, ledger: &mut PairLedger, call: &Call)
     assert!(apart, "{before:?} {call:?}");
     let mut by_lands = before.clone();
     let composed = by_lands.by_lands(call);
+    by_lands.read_once_after(&before.pair);
     assert_eq!((composed, &by_lands), (entry, &*state), "{before:?} {call:?}");
     entry
 }
@@ -433,10 +447,10 @@ fn any_number(random: &mut Random, arena: &Arena) -> u64 {
 /// Changes a field of a handle, a word, or the length of a memory.
 fn damage(random: &mut Random, arena: &Arena, state: &mut State) {
     let number = any_number(random, arena);
-    let ListHandle { base, limit, align, head, ranges, bytes } = &mut state.pair.list;
-    let mut fields = vec![base, limit, align, head, ranges, bytes];
-    let BlockHandle { base, limit, align, ranges, bytes } = &mut state.pair.block;
-    fields.extend([base, limit, align, ranges, bytes]);
+    let ListHandle { base, limit, align, head, ranges, bytes, filled, low } = &mut state.pair.list;
+    let mut fields = vec![base, limit, align, head, ranges, bytes, filled, low];
+    let BlockHandle { base, limit, align, ranges, bytes, filled, low } = &mut state.pair.block;
+    fields.extend([base, limit, align, ranges, bytes, filled, low]);
     let place = random.below(fields.len() as u64) as usize;
     match random.below(8) {
         0..=2 => *fields[place] = number,

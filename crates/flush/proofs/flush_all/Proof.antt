@@ -38,7 +38,7 @@ close-requires-2 : tie.Need-close-requires-2
 close-requires-2 c κs = search needs
 
 same-length : tie.Need-same-length
-same-length c = search needs
+same-length c = let after-minus = c .before .before .before in after-minus .before .before .before .before .before .before .before .transfer .kept .1 .1 .1 .0
 
 returns : tie.Need-returns
 returns c =

@@ -37,7 +37,7 @@ use Rattle.model.proofs.Counting.{room-for-fewer, cut-end}
 use Rattle.model.proofs.Finding.{find-none, find-takes}
 use Rattle.model.proofs.lands.Land.{Land}
 use Rattle.model.proofs.lands.Ways.{above}
-use Rattle.model.proofs.lands.Looking.{Kept, Finds, bad-is-5, damaged-is-6, saw-5, saw-6, refused-find, fine, is-kept, mem-above, step-refused, done-find}
+use Rattle.model.proofs.lands.Looking.{handle-back, Kept, Finds, bad-is-5, damaged-is-6, saw-5, saw-6, refused-find, fine, is-kept, mem-above, step-refused, done-find}
 use Rattle.model.proofs.Parts.{PartOf, mem-stands, part-takes}
 use Rattle.model.proofs.Requests.{find-size-rules, size-refused}
 
@@ -188,4 +188,4 @@ module _ {H L S C F : Type 0} (I : Land H L S C F) (h : H) (ws : List ℕ) where
       find-kept m =
           done-find I h ws aim s k (find w (n .0) mode) q q rs
           (find-none (I .layout .arena h ws) w (n .0) mode rs q g (choice .is) m (fine I h ws aim s k .room))
-          h (sym (I .handle-back h ws (k .good) (k .whole))) (I .here s) (I .here s) (choice .here) (choice .here) ws (sym (I .words-back h ws (k .good) (k .whole)))
+          h (sym (handle-back I h ws (k .good) (k .whole))) (I .here s) (I .here s) (choice .here) (choice .here) ws (sym (I .words-back h ws (k .good) (k .whole)))

@@ -4,9 +4,11 @@ use mathlib.Core.Bool.{Bool, true, cond, _&&_}
 use mathlib.Core.List.{List}
 use mathlib.Core.Option.{none}
 use mathlib.Core.Path.{_≡_}
+use Rattle.units.specs.LowWater.{soundLow}
 use Rattle.units.specs.Rules.{arenaCheck, goodArena}
 use Rattle.units.specs.declared.Addr.{Addr}
 use Rattle.units.specs.declared.Range as units
+use Rattle.units.specs.declared.Size.{Size}
 use Rattle.units.specs.declared.aims.Aim.{Aim}
 use Rattle.units.specs.declared.rules.Arena as units-arena
 use Rattle.units.specs.declared.rules.ArenaCheck.{ArenaCheck}
@@ -30,7 +32,10 @@ pub record Land (H L S C F : Type 0) : Type 1 where
   -- whether the memory is lent as it has to be, and the set-up
   pub lent : H → List ℕ → Bool
   pub set-up : H → List ℕ → Bool
+  -- whether the list or table is sound with both counts, and with the mark and low water
+  pub judged : H → List ℕ → Bool
   pub sound : H → List ℕ → Bool
+  pub bytes : H → Size
   pub ranges : H → List ℕ → List Range
   -- the arena of a handle as the code has it
   pub arena-in : H → units-arena.Arena
@@ -54,6 +59,7 @@ pub record Land (H L S C F : Type 0) : Type 1 where
   pub is-call : (c : Call) (h : H) (ws : List ℕ) → does c h ws ≡ land-call layout c h ws
   pub laws : LandLaws layout
   pub set-up-is : (h : H) (ws : List ℕ) → set-up h ws ≡ goodArena (check-of (arena-in h)) && lent h ws
+  pub sound-is : (h : H) (ws : List ℕ) → sound h ws ≡ judged h ws && soundLow (layout .noted h) (bytes h .0)
   pub reads : (h : H) (ws : List ℕ) → layout .read h ws ≡ reading (set-up h ws) (sound h ws) (ranges h ws)
   pub arena-is : (h : H) (ws : List ℕ) → arena-in h ≡ arena-struct (layout .arena h ws)
   -- the answers of a look are apart
@@ -65,6 +71,5 @@ pub record Land (H L S C F : Type 0) : Type 1 where
       look h ws aim ≡ cond (set-up h ws) (cond (sound h ws) (whole (keep (aimed h aim) (ranges h ws))) damaged) bad
   pub aims-from : (h : H) (x : Addr) → aimed h (Aim.From x) ≡ Aim.From x
   pub keeps : (aim : Aim) (lo hi : ℕ) (rs : List Range) → 0 < lo → Apart lo hi rs → here (keep aim rs) ≡ here-of (pick-by aim none rs)
-  -- a handle and words that are read are those that close what is read
-  pub handle-back : (h : H) (ws : List ℕ) → set-up h ws ≡ true → sound h ws ≡ true → layout .close h (ranges h ws) ≡ h
+  -- words that are read are those that close what is read
   pub words-back : (h : H) (ws : List ℕ) → set-up h ws ≡ true → sound h ws ≡ true → layout .words h ws (ranges h ws) ≡ ws

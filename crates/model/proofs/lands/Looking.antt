@@ -96,6 +96,10 @@ module _ {H L S C F : Type 0} (I : Land H L S C F) where
     held : I .set-up h ws ≡ true → I .sound h ws ≡ true → I .layout .read h ws ≡ holding (I .ranges h ws)
     held g s = I .reads h ws ∙ rw (g, s)
 
+    -- the handle of a sound land is the one that closes its ranges
+    pub handle-back : I .set-up h ws ≡ true → I .sound h ws ≡ true → I .layout .close h (I .ranges h ws) ≡ h
+    handle-back g s = I .laws .close-same h ws (I .ranges h ws) (held g s)
+
     -- 5 and 6, of any call
     module _ (c : Call) where
       pub bad-is-5 : I .set-up h ws ≡ false → refuses c 5

@@ -18,7 +18,7 @@ use Rattle.model.proofs.Chosen.{none-chosen, some-chosen}
 use Rattle.model.proofs.Finding.{walk-visits, walk-keeps}
 use Rattle.model.proofs.lands.Land.{Land}
 use Rattle.model.proofs.lands.Ways.{above}
-use Rattle.model.proofs.lands.Looking.{Kept, changed, read-back, saw, saw-5, saw-6, refused-change, fine, is-kept, mem-above, step-refused, done-change}
+use Rattle.model.proofs.lands.Looking.{handle-back, Kept, changed, read-back, saw, saw-5, saw-6, refused-change, fine, is-kept, mem-above, step-refused, done-change}
 
 module _ {H L S C F : Type 0} (I : Land H L S C F) (h : H) (ws : List ℕ) where
   pub walk-words : (x : ℕ) → ws ≡ I .does (walk x) h ws .words
@@ -53,4 +53,4 @@ module _ {H L S C F : Type 0} (I : Land H L S C F) (h : H) (ws : List ℕ) where
           let c = some-chosen (I .here s) (next-from (x .0) rs) chosen (sym et ∙ g) in
           done-change I h ws (Aim.From x) s k (walk (x .0)) (c .range) (rng 0 0) rs
           (walk-visits (I .layout .arena h ws) (x .0) rs (c .range) (c .is))
-          h (sym (I .handle-back h ws (k .good) (k .whole))) (I .here s) (c .here) ws (sym (I .words-back h ws (k .good) (k .whole))) .0
+          h (sym (handle-back I h ws (k .good) (k .whole))) (I .here s) (c .here) ws (sym (I .words-back h ws (k .good) (k .whole))) .0

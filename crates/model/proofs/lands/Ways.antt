@@ -1,20 +1,22 @@
 -- The ways out of the inner functions that every land has: a refusal, the set-up, the look; and that every call is right. Assumes nothing.
 use Prim.Native.Nat.{ℕ, _≤_, _<_}
-use mathlib.Core.Bool.{true, false, cond}
+use mathlib.Core.Bool.{true, false, cond, and-true, and-false}
 use mathlib.Core.List.{List, [], _∷_}
 use mathlib.Core.Path.{_≡_, sym, ap, _∙_}
 use types.Run.{OneOf}
 use denote.Enum.Declared.{tagOf}
 use Rattle.units.specs.Rules.{goodAlign, goodArena}
 use Rattle.units.specs.Words.{rangeOf}
-use Rattle.units.specs.inner.Parts.{setUpOf}
+use Rattle.units.specs.LowWater.{soundLow}
+use Rattle.units.specs.inner.Parts.{setUpOf, soundnessOf}
 use Rattle.units.specs.declared.Range as units
 use Rattle.units.specs.declared.aims.Aim.{Aim}
 use Rattle.units.specs.declared.rules.Arena.{Arena}
 use Rattle.units.specs.declared.rules.ArenaCheck.{ArenaCheck}
 use Rattle.units.specs.declared.rules.SetUp.{SetUp}
+use Rattle.units.specs.declared.rules.Soundness.{Soundness}
 use Rattle.units.proofs.Alignments.{align-positive}
-use Rattle.units.proofs.Cases.{good-case, bad-arena, set-up-true, set-up-false}
+use Rattle.units.proofs.Cases.{good-case, bad-arena, set-up-true, set-up-false, sound-true, sound-false}
 use Rattle.units.proofs.Facts.{GoodArena, arena-facts}
 use Rattle.units.proofs.Tests.{by, and-left}
 use Rattle.units.proofs.rules.ArenaCheck as arena-type
@@ -64,15 +66,26 @@ module _ {H L S C F : Type 0} (X : Land H L S C F) where
   pub look-bad : (h : H) (ws : List ℕ) (aim : Aim) (r : SetUp) → r ≡ setUpOf (X .set-up h ws) → r ≡ SetUp.Bad → X .bad ≡ X .look h ws aim
   look-bad h ws aim r e f = rw (X .looks h ws aim, set-up-false (X .set-up h ws) r e f)
 
-  -- what a survey answers, told as a look
-  pub look-told : {T : Type 0} (tell : T → L) (damaged : T) (sound : S → T) → tell damaged ≡ X .damaged → ((s : S) → tell (sound s) ≡ X .whole s) →
-      (h : H) (ws : List ℕ) (aim : Aim) (r : SetUp) → r ≡ setUpOf (X .set-up h ws) → r ≡ SetUp.Good →
-      (v : T) → v ≡ cond (X .sound h ws) (sound (X .keep (X .aimed h aim) (X .ranges h ws))) damaged → tell v ≡ X .look h ws aim
-  look-told tell damaged sound ed es h ws aim r e f v ev =
-      let g = set-up-true (X .set-up h ws) r e f in
-      by (X .sound h ws)
-      (λ t. rw (ev, X .looks h ws aim, g, t) (es (X .keep (X .aimed h aim) (X .ranges h ws))))
-      (λ t. rw (ev, X .looks h ws aim, g, t) ed)
+  -- low water judged: where it is bad the land is not sound, else soundness is what is judged of the memory and the counts
+  module _ (h : H) (z : Soundness) (ez : z ≡ soundnessOf (soundLow (X .layout .noted h) (X .bytes h .0))) where
+    pub low-damaged : z ≡ Soundness.Damaged → (ws : List ℕ) → X .sound h ws ≡ false
+    low-damaged g ws = rw (X .sound-is h ws, sound-false (soundLow (X .layout .noted h) (X .bytes h .0)) z ez g, and-false (X .judged h ws))
+
+    pub low-sound : z ≡ Soundness.Sound → (ws : List ℕ) → X .sound h ws ≡ X .judged h ws
+    low-sound g ws = rw (X .sound-is h ws, sound-true (soundLow (X .layout .noted h) (X .bytes h .0)) z ez g, and-true (X .judged h ws))
+
+    module _ (ws : List ℕ) (aim : Aim) (r : SetUp) (e : r ≡ setUpOf (X .set-up h ws)) (f : r ≡ SetUp.Good) where
+      pub look-low : z ≡ Soundness.Damaged → X .damaged ≡ X .look h ws aim
+      look-low g = rw (X .looks h ws aim, set-up-true (X .set-up h ws) r e f, low-damaged g ws)
+
+      -- what a survey answers, told as a look
+      pub look-told : {T : Type 0} (tell : T → L) (damaged : T) (sound : S → T) → tell damaged ≡ X .damaged → ((s : S) → tell (sound s) ≡ X .whole s) →
+          z ≡ Soundness.Sound → (v : T) → v ≡ cond (X .judged h ws) (sound (X .keep (X .aimed h aim) (X .ranges h ws))) damaged → tell v ≡ X .look h ws aim
+      look-told tell damaged sound ed es g v ev =
+          let k = set-up-true (X .set-up h ws) r e f in
+          by (X .judged h ws)
+          (λ t. rw (ev, X .looks h ws aim, k, low-sound g ws, t) (es (X .keep (X .aimed h aim) (X .ranges h ws))))
+          (λ t. rw (ev, X .looks h ws aim, k, low-sound g ws, t) ed)
 
   -- EVERY CALL
   pub land-right : LandRight (X .layout) (X .set-up) (X .sound) (X .ranges)

@@ -1,8 +1,9 @@
 -- Contracts of the inner functions that every call of a pair uses. Assumes nothing.
 use Prim.Native.Nat.{ℕ}
-use mathlib.Core.Bool.{true, cond}
+use mathlib.Core.Bool.{Bool, true, cond, _&&_}
 use mathlib.Core.List.{List}
 use mathlib.Core.Path.{_≡_}
+use Rattle.units.specs.LowWater.{soundLow}
 use Rattle.units.specs.Words.{rangeOf}
 use Rattle.units.specs.declared.Range.{Range}
 use Rattle.units.specs.declared.aims.Aim.{Aim}
@@ -23,6 +24,10 @@ use Rattle.pair.specs.declared.PairCheck.{PairCheck}
 -- What a call looks for, by the arena of both lands.
 abbrev pub aimIn : Pair → Aim → Aim
 aimIn p aim = list-parts.aimIn (p .list) aim
+
+-- The marks and low waters of both handles may be those of sound lands.
+abbrev pub soundLows : Pair → Bool
+soundLows p = soundLow (p .list .water) (p .list .bytes .0) && soundLow (p .block .water) (p .block .bytes .0)
 
 module _ (p : Pair) (ws vs : List ℕ) where
   -- 5, then 6, then what the aim keeps of both.

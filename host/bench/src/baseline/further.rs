@@ -1,6 +1,6 @@
 //! Find last, find largest, the walk, the flush, and the calls on a place where the handle stands.
 
-use super::pair::{flush_apart, judge, node_at, pairs_below, set_up_ok};
+use super::pair::{flush_apart, judge, node_at, note_pair, pairs_below, set_up_ok};
 use super::*;
 
 #[derive(Clone, Copy, PartialEq)]
@@ -74,7 +74,7 @@ fn list_find(mut land: ListLand, words: &mut [u64], size: u64, mode: u64, sort: 
     if !list_set_up_ok(&land, words.len()) {
         return not_found(land, ANSWER_SET_UP);
     }
-    if !ListWalk::from_head(&land).rest_ok(words, &land) {
+    if !list_handle_ok(&land) || !ListWalk::from_head(&land).rest_ok(words, &land) {
         return not_found(land, ANSWER_DAMAGED);
     }
     if !sort.ok(land.align, size, mode) {
@@ -87,6 +87,7 @@ fn list_find(mut land: ListLand, words: &mut [u64], size: u64, mode: u64, sort: 
     let range = sort.part(range_of(met), size, mode);
     if mode != MODE_NONE {
         list_take(&mut land, words, below, met, range);
+        note_list(&mut land);
     }
     Found { land, answer: ANSWER_OK, range, old: range_of(met) }
 }
@@ -105,6 +106,9 @@ pub fn list_find_largest(land: ListLand, words: &mut [u64], size: u64, mode: u64
 pub fn list_walk(land: ListLand, words: &[u64], from: u64) -> Changed<ListLand> {
     if !list_set_up_ok(&land, words.len()) {
         return no_change(land, ANSWER_SET_UP);
+    }
+    if !list_handle_ok(&land) {
+        return no_change(land, ANSWER_DAMAGED);
     }
     let mut walk = ListWalk::from_head(&land);
     let mut met = Node::default();
@@ -140,6 +144,7 @@ fn block_find(mut land: BlockLand, nodes: &mut [u64], size: u64, mode: u64, sort
     let range = sort.part(old, size, mode);
     if mode != MODE_NONE {
         block_take(&mut land, nodes, i, old, range);
+        note_block(&mut land);
     }
     Found { land, answer: ANSWER_OK, range, old }
 }
@@ -189,8 +194,14 @@ fn pair_find(mut pair: Pair, words: &mut [u64], nodes: &mut [u64], size: u64, mo
     let range = sort.part(old, size, mode);
     match i {
         _ if mode == MODE_NONE => {}
-        Some(i) if tabled == Some(old) => block_take(&mut pair.block, nodes, i, old, range),
-        _ => list_take(&mut pair.list, words, below, met, range),
+        Some(i) if tabled == Some(old) => {
+            block_take(&mut pair.block, nodes, i, old, range);
+            note_block(&mut pair.block);
+        }
+        _ => {
+            list_take(&mut pair.list, words, below, met, range);
+            note_list(&mut pair.list);
+        }
     }
     Found { land: pair, answer: ANSWER_OK, range, old }
 }
@@ -211,13 +222,14 @@ pub fn flush(mut pair: Pair, words: &[u64], nodes: &mut [u64]) -> Flushed {
     if !set_up_ok(&pair, words.len(), nodes.len()) {
         return refused(ANSWER_SET_UP);
     }
-    let list_ok = ListWalk::from_head(&pair.list).rest_ok(words, &pair.list);
+    let list_ok = list_handle_ok(&pair.list) && ListWalk::from_head(&pair.list).rest_ok(words, &pair.list);
     if !list_ok || scan(&pair.block, nodes, |_, _| true).is_none() {
         return refused(ANSWER_DAMAGED);
     }
     let before = pair.list.ranges;
     let head = pairs_below(&pair.block, nodes, pair.list.head);
     let stop = flush_apart(&mut pair, words, nodes, head, false);
+    note_pair(&mut pair);
     Flushed { land: pair, answer: ANSWER_OK, moved: before - pair.list.ranges, stop }
 }
 

@@ -9,6 +9,11 @@ pub(super) fn set_up_ok(pair: &Pair, n: usize, m: usize) -> bool {
         && (list.base, list.limit, list.align) == (block.base, block.limit, block.align)
 }
 
+pub(super) fn note_pair(pair: &mut Pair) {
+    note_list(&mut pair.list);
+    note_block(&mut pair.block);
+}
+
 /// Both lands, read once and merged in address order. Its steps are inlined, so that it stays in registers.
 struct Merge<'m> {
     words: &'m [u64],
@@ -22,9 +27,9 @@ struct Merge<'m> {
 }
 
 impl<'m> Merge<'m> {
-    /// None if there are more ranges than the capacity.
+    /// None if a handle is not sound.
     fn from_first(pair: &Pair, words: &'m [u64], nodes: &'m [u64]) -> Option<Self> {
-        if pair.block.ranges > nodes.len() as u64 / 2 {
+        if !list_handle_ok(&pair.list) || !block_handle_ok(&pair.block, nodes.len()) {
             return None;
         }
         let (pairs, tail) = nodes[..nodes.len() & !1].split_at(2 * pair.block.ranges as usize);
@@ -164,19 +169,21 @@ pub(super) fn flush_apart(pair: &mut Pair, words: &[u64], nodes: &mut [u64], i: 
         nodes.copy_within(2 * i..2 * ranges, 2 * (i + shift));
     }
     let mut gap = Gap { nodes, to: i, from: i + shift, end: ranges + shift };
-    let mut stop = ANSWER_OK;
+    let (mut stop, mut moved, mut bytes) = (ANSWER_OK, 0, 0);
     let mut met = node_at(&pair.list, words, pair.list.head);
     while met.base != 0 {
         stop = gap.put(met, apart);
         if stop != ANSWER_OK {
             break;
         }
-        pair.list.ranges -= 1;
-        pair.list.bytes -= met.limit - met.base;
-        pair.block.bytes += met.limit - met.base;
+        moved += 1;
+        bytes += met.limit - met.base;
         met = node_at(&pair.list, words, met.next);
     }
     pair.list.head = met.base;
+    pair.list.ranges -= moved;
+    pair.list.bytes -= bytes;
+    pair.block.bytes += bytes;
     pair.block.ranges = gap.close() as u64;
     stop
 }
@@ -236,6 +243,7 @@ pub fn pair_insert(mut pair: Pair, words: &mut [u64], nodes: &mut [u64], r: Rang
         Some(all) => all,
         None => list_put(&mut pair.list, words, below, above, r),
     };
+    note_pair(&mut pair);
     changed(pair, ANSWER_OK, all)
 }
 
@@ -267,6 +275,7 @@ fn hand_over(pair: &mut Pair, words: &mut [u64], nodes: &mut [u64], i: usize, me
     nodes[2 * i + 1] = r.base;
     pair.block.bytes -= upper.limit - r.base;
     list_put(&mut pair.list, words, met, above, upper);
+    note_list(&mut pair.list);
 }
 
 /// The last range of the list that does not begin above a request, the base of the one before it, and the number of
@@ -297,6 +306,7 @@ pub fn pair_delete(mut pair: Pair, words: &mut [u64], nodes: &mut [u64], r: Rang
     }
     if r.limit <= met.limit {
         list_take(&mut pair.list, words, below, met, r);
+        note_list(&mut pair.list);
         return changed(pair, ANSWER_OK, Range { base: met.base, limit: met.limit });
     }
     if behind == 0 || nodes[2 * behind - 1] < r.limit {
@@ -310,6 +320,7 @@ pub fn pair_delete(mut pair: Pair, words: &mut [u64], nodes: &mut [u64], r: Rang
     } else {
         block_take(&mut pair.block, nodes, behind - 1, old, r);
     }
+    note_block(&mut pair.block);
     changed(pair, ANSWER_OK, old)
 }
 
@@ -381,8 +392,14 @@ pub fn pair_find_first(mut pair: Pair, words: &mut [u64], nodes: &mut [u64], siz
     let range = part(old, size, mode);
     match rest {
         _ if mode == MODE_NONE => {}
-        Rest::List { below, met } => list_take(&mut pair.list, words, below, met, range),
-        Rest::Table(i) => block_take(&mut pair.block, nodes, i, old, range),
+        Rest::List { below, met } => {
+            list_take(&mut pair.list, words, below, met, range);
+            note_list(&mut pair.list);
+        }
+        Rest::Table(i) => {
+            block_take(&mut pair.block, nodes, i, old, range);
+            note_block(&mut pair.block);
+        }
         Rest::Nowhere => {}
     }
     Found { land: pair, answer: ANSWER_OK, range, old }

@@ -41,26 +41,26 @@ fn range_out(range: limbegoru::Range) -> Range {
 
 /// The model's list handle for the component.
 fn list_in(land: ListHandle) -> limbegoru::ListHandle {
-    let ListHandle { base, limit, align, head, ranges, bytes } = land;
-    limbegoru::ListHandle { base, limit, align, head, ranges, bytes }
+    let ListHandle { base, limit, align, head, ranges, bytes, filled, low } = land;
+    limbegoru::ListHandle { base, limit, align, head, ranges, bytes, filled, low }
 }
 
 /// The component's list handle for the model.
 fn list_out(land: limbegoru::ListHandle) -> ListHandle {
-    let limbegoru::ListHandle { base, limit, align, head, ranges, bytes } = land;
-    ListHandle { base, limit, align, head, ranges, bytes }
+    let limbegoru::ListHandle { base, limit, align, head, ranges, bytes, filled, low } = land;
+    ListHandle { base, limit, align, head, ranges, bytes, filled, low }
 }
 
 /// The model's block handle for the component.
 fn block_in(land: BlockHandle) -> limbegoru::BlockHandle {
-    let BlockHandle { base, limit, align, ranges, bytes } = land;
-    limbegoru::BlockHandle { base, limit, align, ranges, bytes }
+    let BlockHandle { base, limit, align, ranges, bytes, filled, low } = land;
+    limbegoru::BlockHandle { base, limit, align, ranges, bytes, filled, low }
 }
 
 /// The component's block handle for the model.
 fn block_out(land: limbegoru::BlockHandle) -> BlockHandle {
-    let limbegoru::BlockHandle { base, limit, align, ranges, bytes } = land;
-    BlockHandle { base, limit, align, ranges, bytes }
+    let limbegoru::BlockHandle { base, limit, align, ranges, bytes, filled, low } = land;
+    BlockHandle { base, limit, align, ranges, bytes, filled, low }
 }
 
 /// The model's handle of a pair for the component.

@@ -1,6 +1,7 @@
-//! All calls of a kind: all sets of a 6-unit arena with all requests, all small memories, all flushes of small sets.
+//! All calls of a kind: all sets of a 6-unit arena with all requests and marks and low waters of all kinds, all small
+//! memories, all flushes of small sets.
 
-use limbegoru_model::{block, list, set, Arena, BlockHandle, Call, Find, ListHandle, Range};
+use limbegoru_model::{block, list, set, Arena, BlockHandle, Call, Find, ListHandle, LowWater, Pair, Range};
 
 use crate::compare::Report;
 use crate::lent::Lent;
@@ -46,6 +47,36 @@ pub(super) fn calls(arena: &Arena) -> Vec<Call> {
     calls
 }
 
+/// How many kinds of marks and low waters are tried, and how many of them, the first ones, are sound.
+const KINDS: usize = 9;
+pub(super) const SOUND: usize = 4;
+
+/// Marks and low waters beside so many free bytes: sound ones, then low water above the bytes, an unset mark with bytes
+/// or low water, and bad marks. An unset mark with low water 0 is sound only where there are no bytes.
+fn low_waters(bytes: u64) -> [LowWater; KINDS] {
+    let (sound, unsound) = if bytes == 0 { ((0, 0), (0, 8)) } else { ((1, 1), (0, 0)) };
+    let [half, above] = [bytes / 2, bytes + 8];
+    let all = [(1, bytes), (1, 0), (1, half), sound, unsound, (1, above), (0, above), (2, bytes), (u64::MAX, 0)];
+    all.map(|(filled, low)| LowWater { filled, low })
+}
+
+/// The list handle of these ranges with each mark and low water.
+pub(super) fn list_handles(arena: &Arena, ranges: &[Range]) -> [ListHandle; KINDS] {
+    let land = ListHandle::of(arena, ranges);
+    low_waters(land.bytes).map(|LowWater { filled, low }| ListHandle { filled, low, ..land })
+}
+
+/// The block handle of these ranges with each mark and low water.
+pub(super) fn block_handles(arena: &Arena, ranges: &[Range]) -> [BlockHandle; KINDS] {
+    let land = BlockHandle::of(arena, ranges);
+    low_waters(land.bytes).map(|LowWater { filled, low }| BlockHandle { filled, low, ..land })
+}
+
+/// Each list handle with each block handle.
+pub(super) fn pairs_of(lists: &[ListHandle], blocks: &[BlockHandle]) -> Vec<Pair> {
+    lists.iter().flat_map(|list| blocks.iter().map(|block| Pair { list: *list, block: *block })).collect()
+}
+
 /// All sets of a list land with all calls, with grains and without.
 pub fn list_sets(run: &mut Run) -> Result<(), Report> {
     for align in [8, 16] {
@@ -55,11 +86,19 @@ pub fn list_sets(run: &mut Run) -> Result<(), Report> {
             let ranges = ranges_of(&arena, bits);
             let mut words = vec![FILL; arena.words() as usize];
             list::write(&arena, &ranges, &mut words);
-            for call in &calls {
-                let mut lent = Lent::new(&words, &[FILL], &[FILL]);
-                run.list_call(ListHandle::of(&arena, &ranges), &mut lent, call)?;
+            for land in list_handles(&arena, &ranges) {
+                list_calls(run, land, &words, &calls)?;
             }
         }
+    }
+    Ok(())
+}
+
+/// All these calls on a list land.
+fn list_calls(run: &mut Run, land: ListHandle, words: &[u64], calls: &[Call]) -> Result<(), Report> {
+    for call in calls {
+        let mut lent = Lent::new(words, &[FILL], &[FILL]);
+        run.list_call(land, &mut lent, call)?;
     }
     Ok(())
 }
@@ -73,11 +112,19 @@ pub fn block_sets(run: &mut Run) -> Result<(), Report> {
         for length in 2 * ranges.len()..8 {
             let mut nodes = vec![FILL; length];
             block::write(&ranges, &mut nodes);
-            for call in &calls {
-                let mut lent = Lent::new(&nodes, &[FILL], &[FILL]);
-                run.block_call(BlockHandle::of(&arena, &ranges), &mut lent, call)?;
+            for land in block_handles(&arena, &ranges) {
+                block_calls(run, land, &nodes, &calls)?;
             }
         }
+    }
+    Ok(())
+}
+
+/// All these calls on a block land.
+fn block_calls(run: &mut Run, land: BlockHandle, nodes: &[u64], calls: &[Call]) -> Result<(), Report> {
+    for call in calls {
+        let mut lent = Lent::new(nodes, &[FILL], &[FILL]);
+        run.block_call(land, &mut lent, call)?;
     }
     Ok(())
 }
@@ -101,7 +148,8 @@ pub fn list_words(run: &mut Run) -> Result<(), Report> {
         for head in [0, 8, 12, 16, 24, 32] {
             for counts in 0..16 {
                 let (ranges, bytes) = (counts % 4, counts / 4 * 8);
-                let land = ListHandle { base: 8, limit: 32, align: 8, head, ranges, bytes };
+                let LowWater { filled, low } = LowWater::NEW.noted(bytes);
+                let land = ListHandle { base: 8, limit: 32, align: 8, head, ranges, bytes, filled, low };
                 run.list_call(land, &mut lent, &Call::Walk(0))?;
             }
         }
@@ -118,7 +166,8 @@ pub fn block_words(run: &mut Run) -> Result<(), Report> {
             lent.words_mut()[..4].copy_from_slice(&digits(number, &alphabet, 4));
             for counts in 0..16 {
                 let (ranges, bytes) = (counts % 4, counts / 4 * 8);
-                let land = BlockHandle { base: 8, limit: 32, align: 8, ranges, bytes };
+                let LowWater { filled, low } = LowWater::NEW.noted(bytes);
+                let land = BlockHandle { base: 8, limit: 32, align: 8, ranges, bytes, filled, low };
                 run.block_call(land, &mut lent, &Call::Walk(0))?;
             }
         }
@@ -141,20 +190,21 @@ pub fn flushes(run: &mut Run) -> Result<(), Report> {
     Ok(())
 }
 
-/// The flushes of one set into another, with the capacities up to 3.
+/// The flushes of one set into another, with the capacities up to 3, and all marks and low waters of both.
 fn flushes_of(
     run: &mut Run,
     arena: &Arena,
     (listed, words): (&[Range], &[u64]),
     tabled: &[Range],
 ) -> Result<(), Report> {
-    let (list, block) = (ListHandle::of(arena, listed), BlockHandle::of(arena, tabled));
     for capacity in tabled.len()..4 {
         let mut nodes = vec![FILL; 2 * capacity + 1];
         block::write(tabled, &mut nodes);
-        let mut words = Lent::new(words, &[FILL], &[FILL]);
-        let mut nodes = Lent::new(&nodes, &[FILL], &[FILL]);
-        run.flush((list, &mut words), (block, &mut nodes))?;
+        for Pair { list, block } in pairs_of(&list_handles(arena, listed), &block_handles(arena, tabled)) {
+            let mut words = Lent::new(words, &[FILL], &[FILL]);
+            let mut nodes = Lent::new(&nodes, &[FILL], &[FILL]);
+            run.flush((list, &mut words), (block, &mut nodes))?;
+        }
     }
     Ok(())
 }

@@ -1,7 +1,11 @@
 //! The comparison of a history with the ledger of demand 3, which sees no answer, no handle and no word.
 
+use std::fmt::Debug;
+
 use limbegoru_model::ledger::Entry;
-use limbegoru_model::{block, list, Arena, BlockHandle, Call, Done, Ledger, ListHandle, PairLedger, Range};
+use limbegoru_model::{
+    block, list, Arena, BlockHandle, Call, Done, Flushed, Ledger, ListHandle, LowWater, PairLedger, Range,
+};
 
 use crate::compare::Report;
 use crate::generate;
@@ -34,33 +38,37 @@ pub fn feed_pair(ledger: &mut PairLedger, call: &Call) -> Entry {
     feed!(ledger, call, _from => panic!("a pair has no walk"))
 }
 
-/// What a land's handle and words give: its ranges, if they are sound, and the handle's two counts.
+/// What a land's handle and words give: its ranges, if they are sound, the handle's two counts, and its mark and low
+/// water.
 #[derive(Clone, Debug, PartialEq, Eq)]
 pub struct Given {
     ranges: Option<Vec<Range>>,
     counts: (u64, u64),
+    low_water: LowWater,
 }
 
 impl Given {
     /// What a list land gives.
     pub fn list(arena: &Arena, land: &ListHandle, lent: &Lent) -> Given {
-        Given { ranges: list::read(arena, land, lent.words()), counts: (land.ranges, land.bytes) }
+        let (counts, low_water) = ((land.ranges, land.bytes), land.low_water());
+        Given { ranges: list::read(arena, land, lent.words()), counts, low_water }
     }
 
     /// What a block land gives.
     pub fn block(arena: &Arena, land: &BlockHandle, lent: &Lent) -> Given {
-        Given { ranges: block::read(arena, land, lent.words()), counts: (land.ranges, land.bytes) }
+        let (counts, low_water) = ((land.ranges, land.bytes), land.low_water());
+        Given { ranges: block::read(arena, land, lent.words()), counts, low_water }
     }
 
-    /// What a land of these marks must give.
+    /// What a land of these marks and this history must give.
     fn marked(ledger: &Ledger) -> Given {
         let isolated = ledger.isolated();
         let counts = (isolated.len() as u64, isolated.iter().map(|range| range.length()).sum());
-        Given { ranges: Some(isolated), counts }
+        Given { ranges: Some(isolated), counts, low_water: ledger.low_water() }
     }
 }
 
-/// Compares a call with the ledger's entry: the answer and the ranges, and what each land then gives with its marks.
+/// Compares a call with the ledger's entry: the answer and the ranges, and what each land then gives.
 pub fn compare<H: Copy>(
     run: &Run,
     call: &Call,
@@ -68,7 +76,29 @@ pub fn compare<H: Copy>(
     done: &Done<H>,
     lands: &[(&Ledger, Given)],
 ) -> Result<(), Report> {
-    let got = Entry { answer: done.answer, range: done.range, old: done.old };
+    compare_lands(run, call, entry, Entry { answer: done.answer, range: done.range, old: done.old }, lands)
+}
+
+/// Compares a flush with the number of ranges that the ledgers moved and the refusal that stopped them, and what each
+/// land then gives.
+pub fn compare_flush(
+    run: &Run,
+    (moved, stop): (u64, u64),
+    flushed: &Flushed,
+    lands: &[(&Ledger, Given)],
+) -> Result<(), Report> {
+    compare_lands(run, &"flush", [0, moved, stop], [flushed.answer, flushed.moved, flushed.stop], lands)
+}
+
+/// Compares what a call returned with what the ledgers say to it, and what each land then gives with its marks and its
+/// history.
+fn compare_lands<E: PartialEq + Debug>(
+    run: &Run,
+    call: &dyn Debug,
+    entry: E,
+    got: E,
+    lands: &[(&Ledger, Given)],
+) -> Result<(), Report> {
     let marked: Vec<Given> = lands.iter().map(|(ledger, _)| Given::marked(ledger)).collect();
     let given: Vec<&Given> = lands.iter().map(|(_, given)| given).collect();
     if entry == got && given.iter().copied().eq(&marked) {
@@ -99,7 +129,7 @@ pub fn host_writes_last(random: &mut Random, lent: &mut Lent) {
 
 #[cfg(test)]
 mod tests {
-    use limbegoru_model::{Arena, Call, Done, Ledger, ListHandle, Range};
+    use limbegoru_model::{Arena, Call, Done, Ledger, ListHandle, LowWater, Range};
 
     use super::{compare, feed, Given};
     use crate::component::ByValue;
@@ -111,21 +141,23 @@ mod tests {
         let run = Run::new(&ByValue, "ledger", 1);
         let range = Range::new(4096, 4112);
         let done = Done { land: ListHandle::default(), answer: 0, range, old: Range::NOTHING };
-        let check = |done: Done<ListHandle>, ranges: Option<Vec<Range>>, counts| {
+        let sound = Given { ranges: Some(vec![range]), counts: (1, 16), low_water: LowWater { filled: 1, low: 16 } };
+        let check = |done: Done<ListHandle>, tried: Given| {
             let mut ledger = Ledger::new(arena, None);
             let call = Call::Insert(range);
             let entry = feed(&mut ledger, &call);
-            let sound = (&ledger, Given { ranges: Some(vec![range]), counts: (1, 16) });
-            let tried = (&ledger, Given { ranges, counts });
-            compare(&run, &call, entry, &done, &[sound, tried]).is_ok()
+            compare(&run, &call, entry, &done, &[(&ledger, sound.clone()), (&ledger, tried)]).is_ok()
         };
-        assert!(check(done, Some(vec![range]), (1, 16)));
-        assert!(!check(done, None, (1, 16)));
-        assert!(!check(done, Some(vec![]), (1, 16)));
-        assert!(!check(done, Some(vec![range]), (2, 16)));
-        assert!(!check(done, Some(vec![range]), (1, 8)));
-        assert!(!check(Done { answer: 1, ..done }, Some(vec![range]), (1, 16)));
-        assert!(!check(Done { range: Range::NOTHING, ..done }, Some(vec![range]), (1, 16)));
-        assert!(!check(Done { old: range, ..done }, Some(vec![range]), (1, 16)));
+        assert!(check(done, sound.clone()));
+        assert!(!check(done, Given { ranges: None, ..sound.clone() }));
+        assert!(!check(done, Given { ranges: Some(vec![]), ..sound.clone() }));
+        assert!(!check(done, Given { counts: (2, 16), ..sound.clone() }));
+        assert!(!check(done, Given { counts: (1, 8), ..sound.clone() }));
+        for (filled, low) in [(0, 16), (2, 16), (1, 8), (1, 0), (0, 0)] {
+            assert!(!check(done, Given { low_water: LowWater { filled, low }, ..sound.clone() }));
+        }
+        assert!(!check(Done { answer: 1, ..done }, sound.clone()));
+        assert!(!check(Done { range: Range::NOTHING, ..done }, sound.clone()));
+        assert!(!check(Done { old: range, ..done }, sound.clone()));
     }
 }

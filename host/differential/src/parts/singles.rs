@@ -132,7 +132,8 @@ fn list_of_any_numbers(run: &mut Run) -> Result<(), Report> {
     let [base, limit, align] = ends(random);
     let length = words_for(random, [base, limit, align]);
     let mut any = || generate::number(random, &arena, &[]);
-    let land = ListHandle { base, limit, align, head: any(), ranges: any() % 4, bytes: any() };
+    let (head, ranges, bytes, filled, low) = (any(), any() % 4, any(), any() % 3, any());
+    let land = ListHandle { base, limit, align, head, ranges, bytes, filled, low };
     let words = generate::words(random, &arena, length);
     let mut lent = generate::lend(random, &arena, &words);
     let call = Mix::any(random).call(random, &arena, &[]);
@@ -145,7 +146,8 @@ fn block_of_any_numbers(run: &mut Run) -> Result<(), Report> {
     let arena = generate::any_arena(random);
     let [base, limit, align] = ends(random);
     let mut any = || generate::number(random, &arena, &[]);
-    let land = BlockHandle { base, limit, align, ranges: any() % 4, bytes: any() };
+    let (ranges, bytes, filled, low) = (any() % 4, any(), any() % 3, any());
+    let land = BlockHandle { base, limit, align, ranges, bytes, filled, low };
     let length = random.place(9);
     let nodes = generate::words(random, &arena, length);
     let mut lent = generate::lend(random, &arena, &nodes);

@@ -125,7 +125,9 @@ fn requests() {
         _ => {}
     });
     block_noticed("only the low half of a mode is read", |it: BlockCall| match it.call {
-        Call::Find(Find::Largest, 0, mode) if it.done.answer == 4 && mode as u32 <= 3 => it.done.answer = 2,
+        Call::Find(Find::Largest, size, mode) if it.done.answer == 4 && mode as u32 <= 3 => {
+            it.done.answer -= 2 * u64::from(size.is_multiple_of(it.land.align));
+        }
         _ => {}
     });
     list_noticed("a request is checked before the list", |it: ListCall| match it.call {

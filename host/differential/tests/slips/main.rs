@@ -1,6 +1,7 @@
 //! The comparison can fail: components with a slip in them are noticed, each by a short run.
 
 mod calls;
+mod low_water;
 mod pair;
 mod rules;
 
@@ -8,6 +9,15 @@ use differential::component::Component;
 use differential::parts;
 use differential::run::pair_call;
 use limbegoru_model::{block, flush, list, BlockHandle, Call, Done, Flushed, ListHandle, Opened, Pair, Range};
+
+/// The opening of a land as the model did it: the ends and the alignment, the lent length, and what it returned.
+struct Opening<'a> {
+    ends: [u64; 3],
+    lent: usize,
+    answer: &'a mut u64,
+    filled: &'a mut u64,
+    low: &'a mut u64,
+}
 
 /// A call on a list land as the model did it.
 struct ListCall<'a> {
@@ -50,14 +60,11 @@ struct PairCall<'a> {
     nodes: &'a mut [u64],
 }
 
-/// What a slip does to an opening, given the ends and the alignment, the lent length and the answer.
-type OpenSlip = Box<dyn Fn([u64; 3], usize, &mut u64)>;
-
 /// The model with a slip in it.
 struct Slip {
-    list_open: OpenSlip,
+    list_open: Box<dyn Fn(Opening)>,
     list: Box<dyn Fn(ListCall)>,
-    block_open: OpenSlip,
+    block_open: Box<dyn Fn(Opening)>,
     block: Box<dyn Fn(BlockCall)>,
     flush: Box<dyn Fn(FlushCall)>,
     pair: Box<dyn Fn(PairCall)>,
@@ -66,9 +73,9 @@ struct Slip {
 /// The model itself.
 fn no_slip() -> Slip {
     Slip {
-        list_open: Box::new(|_, _, _| {}),
+        list_open: Box::new(|_| {}),
         list: Box::new(|_| {}),
-        block_open: Box::new(|_, _, _| {}),
+        block_open: Box::new(|_| {}),
         block: Box::new(|_| {}),
         flush: Box::new(|_| {}),
         pair: Box::new(|_| {}),
@@ -82,7 +89,8 @@ impl Component for Slip {
 
     fn list_open(&self, base: u64, limit: u64, align: u64, words: &mut [u64]) -> Opened<ListHandle> {
         let mut opened = list::open(base, limit, align, words);
-        (self.list_open)([base, limit, align], words.len(), &mut opened.answer);
+        let Opened { land: ListHandle { filled, low, .. }, answer } = &mut opened;
+        (self.list_open)(Opening { ends: [base, limit, align], lent: words.len(), answer, filled, low });
         opened
     }
 
@@ -96,7 +104,8 @@ impl Component for Slip {
 
     fn block_open(&self, base: u64, limit: u64, align: u64, nodes: &mut [u64]) -> Opened<BlockHandle> {
         let mut opened = block::open(base, limit, align, nodes);
-        (self.block_open)([base, limit, align], nodes.len(), &mut opened.answer);
+        let Opened { land: BlockHandle { filled, low, .. }, answer } = &mut opened;
+        (self.block_open)(Opening { ends: [base, limit, align], lent: nodes.len(), answer, filled, low });
         opened
     }
 

@@ -2,12 +2,12 @@
 
 use differential::parts;
 use limbegoru_model::arena::HIGHEST_LIMIT;
-use limbegoru_model::{Arena, BlockHandle, ListHandle, Range};
+use limbegoru_model::{Arena, BlockHandle, ListHandle, LowWater, Range};
 
-use crate::{block_noticed, list_noticed, no_slip, BlockCall, ListCall, OpenSlip, Slip};
+use crate::{block_noticed, list_noticed, no_slip, BlockCall, ListCall, Opening, Slip};
 
 /// Rules by name, and whether each is kept.
-type Rules = Vec<(&'static str, bool)>;
+pub type Rules = Vec<(&'static str, bool)>;
 
 /// Are all rules kept but this one?
 fn all_but(rule: &str, rules: &Rules) -> bool {
@@ -24,6 +24,16 @@ fn range_rules(arena: &Arena, last: Option<&Range>, range: Range) -> Rules {
         ("base aligned", arena.aligned(range.base)),
         ("limit aligned", arena.aligned(range.limit)),
         ("not empty", range.base < range.limit),
+    ]
+}
+
+/// The rules of a mark and a low water beside so many free bytes. An unset mark with a low water that is not 0 breaks
+/// one of the last two.
+pub fn low_water_rules(LowWater { filled, low }: LowWater, bytes: u64) -> Rules {
+    vec![
+        ("mark 0 or 1", filled <= 1),
+        ("low water at most the bytes", low <= bytes),
+        ("mark set with bytes", filled != 0 || bytes == 0),
     ]
 }
 
@@ -59,7 +69,7 @@ fn list_but(rule: &str, arena: &Arena, land: &ListHandle, words: &[u64]) -> bool
         base = next;
     }
     let counts = vec![("ranges", land.ranges == met.len() as u64), ("bytes", land.bytes == bytes(&met))];
-    base == 0 && all_but(rule, &counts)
+    base == 0 && all_but(rule, &counts) && all_but(rule, &low_water_rules(land.low_water(), land.bytes))
 }
 
 /// Is the table sound but for one rule?
@@ -76,13 +86,16 @@ fn table_but(rule: &str, arena: &Arena, land: &BlockHandle, nodes: &[u64]) -> bo
         ("zero limits", rest.iter().all(|pair| pair.limit == 0)),
         ("bytes", land.bytes == bytes(ranges)),
     ];
-    each && all_but(rule, &whole)
+    each && all_but(rule, &whole) && all_but(rule, &low_water_rules(land.low_water(), land.bytes))
 }
+
+/// The names of the rules of a mark and a low water.
+pub const LOW_WATER_RULES: [&str; 3] = ["mark 0 or 1", "low water at most the bytes", "mark set with bytes"];
 
 #[test]
 fn of_a_sound_list() {
     let rules = ["ascending", "apart", "limit inside", "base aligned", "limit aligned", "not empty"];
-    for rule in rules.into_iter().chain(["block of 8 bytes", "ranges", "bytes"]) {
+    for rule in rules.into_iter().chain(["block of 8 bytes", "ranges", "bytes"]).chain(LOW_WATER_RULES) {
         list_noticed(rule, move |it: ListCall| {
             let arena = Arena::new(it.land.base, it.land.limit, it.land.align);
             if it.done.answer == 6 && arena.is_some_and(|arena| list_but(rule, &arena, &it.land, it.words)) {
@@ -95,7 +108,7 @@ fn of_a_sound_list() {
 #[test]
 fn of_a_sound_table() {
     let rules = ["ascending", "apart", "base inside", "limit inside", "base aligned", "limit aligned", "not empty"];
-    for rule in rules.into_iter().chain(["zero bases", "zero limits", "bytes"]) {
+    for rule in rules.into_iter().chain(["zero bases", "zero limits", "bytes"]).chain(LOW_WATER_RULES) {
         block_noticed(rule, move |it: BlockCall| {
             let arena = Arena::new(it.land.base, it.land.limit, it.land.align);
             if it.done.answer == 6 && arena.is_some_and(|arena| table_but(rule, &arena, &it.land, it.nodes)) {
@@ -149,9 +162,9 @@ fn of_a_list_land() {
                 it.done.answer = 6;
             }
         });
-        let list_open = move |ends: [u64; 3], words: usize, answer: &mut u64| {
-            if *answer == 5 && all_but(rule, &list_rules(ends, words)) {
-                *answer = 0;
+        let list_open = move |it: Opening| {
+            if *it.answer == 5 && all_but(rule, &list_rules(it.ends, it.lent)) {
+                *it.answer = 0;
             }
         };
         crate::noticed(rule, Slip { list_open: Box::new(list_open), ..no_slip() });
@@ -167,9 +180,9 @@ fn of_a_block_land() {
                 it.done.answer = 6;
             }
         });
-        let block_open = move |ends: [u64; 3], _: usize, answer: &mut u64| {
-            if *answer == 5 && all_but(rule, &arena_rules(ends)) {
-                *answer = 0;
+        let block_open = move |it: Opening| {
+            if *it.answer == 5 && all_but(rule, &arena_rules(it.ends)) {
+                *it.answer = 0;
             }
         };
         crate::noticed(rule, Slip { block_open: Box::new(block_open), ..no_slip() });
@@ -178,12 +191,12 @@ fn of_a_block_land() {
 
 #[test]
 fn of_node_space() {
-    let block_open: OpenSlip = Box::new(|ends, _, answer| {
-        if all_but("", &arena_rules(ends)) {
-            *answer = 0;
+    let block_open = |it: Opening| {
+        if all_but("", &arena_rules(it.ends)) {
+            *it.answer = 0;
         }
-    });
-    let slip = Slip { block_open, ..no_slip() };
+    };
+    let slip = Slip { block_open: Box::new(block_open), ..no_slip() };
     assert!(parts::drawn(&slip, 1, 10_000).is_ok());
     assert!(parts::large(&slip, 1).is_err());
 }

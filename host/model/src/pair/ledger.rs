@@ -1,12 +1,13 @@
 //! The ledger of a pair: it marks each land's bytes apart, by the steps of request K4. Free means marked for either
-//! land. Like the ledger of one land it sees no answer, no handle and no word.
+//! land. Like the ledger of one land it sees no answer, no handle and no word. The history of each land counts each
+//! step of the pair that answers 0 once, whatever was done inside it.
 
 use crate::arena::{Arena, Range};
 use crate::call::Find;
 use crate::ledger::{Entry, Ledger};
 
-/// The marks of the two lands of a pair.
-#[derive(Clone, Debug)]
+/// The marks and the histories of the two lands of a pair.
+#[derive(Clone, Debug, PartialEq, Eq)]
 pub struct PairLedger {
     arena: Arena,
     list: Ledger,
@@ -19,23 +20,24 @@ impl PairLedger {
         PairLedger { arena, list: Ledger::new(arena, None), block: Ledger::new(arena, Some(capacity)) }
     }
 
-    /// The ledger of a pair of lands that hold these ranges already, or nothing if the lands cannot hold them or
-    /// overlap.
+    /// The ledger of a pair of lands that hold these ranges already, put in by one step, or nothing if the lands cannot
+    /// hold them or overlap.
     pub fn holding(arena: Arena, capacity: u64, list: &[Range], block: &[Range]) -> Option<PairLedger> {
         let mut ledger = PairLedger::new(arena, capacity);
-        let listed = list.iter().all(|range| ledger.list.insert(*range).answer == 0);
+        let listed = list.iter().all(|range| ledger.list.inner_insert(*range).answer == 0);
         let tabled = block.iter().all(|range| {
-            ledger.block.insert(*range).answer == 0 && !ledger.units(*range).any(|unit| ledger.list.marked(unit))
+            ledger.block.inner_insert(*range).answer == 0 && !ledger.units(*range).any(|unit| ledger.list.marked(unit))
         });
+        ledger.count();
         (listed && tabled).then_some(ledger)
     }
 
-    /// The marks of the list land.
+    /// The marks and the history of the list land.
     pub fn list(&self) -> &Ledger {
         &self.list
     }
 
-    /// The marks of the block land.
+    /// The marks and the history of the block land.
     pub fn block(&self) -> &Ledger {
         &self.block
     }
@@ -45,26 +47,58 @@ impl PairLedger {
         self.list.marked(address) || self.block.marked(address)
     }
 
+    /// An insert, which each history counts if it answers 0.
+    pub fn insert(&mut self, range: Range) -> Entry {
+        let entry = self.inner_insert(range);
+        self.counted(entry)
+    }
+
+    /// A delete, which each history counts if it answers 0.
+    pub fn delete(&mut self, range: Range) -> Entry {
+        let entry = self.inner_delete(range);
+        self.counted(entry)
+    }
+
+    /// A find, which each history counts if it answers 0.
+    pub fn find(&mut self, find: Find, size: u64, mode: u64) -> Entry {
+        let entry = self.inner_find(find, size, mode);
+        self.counted(entry)
+    }
+
+    /// The history of each land counts the present total.
+    fn count(&mut self) {
+        self.list.count();
+        self.block.count();
+    }
+
+    /// Each history counts a step that answers 0.
+    fn counted(&mut self, entry: Entry) -> Entry {
+        if entry.answer == 0 {
+            self.count();
+        }
+        entry
+    }
+
     /// Insert: 1 if a byte is marked for either land. Otherwise a flush, and the range is marked for the block land, or
     /// for the list where the block land answers 3.
-    pub fn insert(&mut self, range: Range) -> Entry {
+    fn inner_insert(&mut self, range: Range) -> Entry {
         if !self.arena.allows_range(range) {
             return Entry::refused(4);
         }
         if self.units(range).any(|unit| self.marked(unit)) {
             return Entry::refused(1);
         }
-        self.flush();
-        let entry = self.block.insert(range);
+        self.list.inner_flush(&mut self.block);
+        let entry = self.block.inner_insert(range);
         if entry.answer == 3 {
-            return self.list.insert(range);
+            return self.list.inner_insert(range);
         }
         entry
     }
 
     /// Delete: 1 if a byte is marked for neither land, 7 if no land has them all. Otherwise a step of the land that has
     /// them; if the block land answers 3, the marks above the range go to the list.
-    pub fn delete(&mut self, range: Range) -> Entry {
+    fn inner_delete(&mut self, range: Range) -> Entry {
         if !self.arena.allows_range(range) {
             return Entry::refused(4);
         }
@@ -72,12 +106,12 @@ impl PairLedger {
             return Entry::refused(1);
         }
         if self.units(range).all(|unit| self.list.marked(unit)) {
-            return self.list.delete(range);
+            return self.list.inner_delete(range);
         }
         if self.units(range).any(|unit| self.list.marked(unit)) {
             return Entry::refused(7);
         }
-        let entry = self.block.delete(range);
+        let entry = self.block.inner_delete(range);
         if entry.answer == 3 {
             return self.hand_over(range);
         }
@@ -85,10 +119,10 @@ impl PairLedger {
     }
 
     /// Finds: a step of the land whose find is the lower, the higher or the longer.
-    pub fn find(&mut self, find: Find, size: u64, mode: u64) -> Entry {
+    fn inner_find(&mut self, find: Find, size: u64, mode: u64) -> Entry {
         let (mut list, mut block) = (self.list.clone(), self.block.clone());
-        let listed = list.find(find, size, mode);
-        let tabled = block.find(find, size, mode);
+        let listed = list.inner_find(find, size, mode);
+        let tabled = block.inner_find(find, size, mode);
         let lower = listed.range.base < tabled.range.base;
         let longer = listed.range.length().cmp(&tabled.range.length());
         let list_is_taken = match (listed.answer, tabled.answer) {
@@ -108,24 +142,14 @@ impl PairLedger {
         tabled
     }
 
-    /// Moves the list's isolated ranges in address order to the block land, until one is refused.
-    fn flush(&mut self) {
-        for range in self.list.isolated() {
-            if self.block.insert(range).answer != 0 {
-                return;
-            }
-            self.list.delete(range);
-        }
-    }
-
     /// Unmarks the range for the block land; the marks that touch it above go to the list.
     fn hand_over(&mut self, range: Range) -> Entry {
         let mut top = range.limit;
         while self.block.marked(top) {
             top += self.arena.align();
         }
-        let entry = self.block.delete(Range::new(range.base, top));
-        self.list.insert(Range::new(range.limit, top));
+        let entry = self.block.inner_delete(Range::new(range.base, top));
+        self.list.inner_insert(Range::new(range.limit, top));
         entry
     }
 

@@ -13,18 +13,18 @@ use Rattle.block_words.specs.declared.Entry.{Entry}
 use Rattle.block_words.specs.inner.Surveys.{entryOf}
 use Rattle.block_land.specs.inner.Parts.{Looked}
 use Rattle.block_land.proofs.Land.{block-land}
-use Rattle.block_land.proofs.Ways.{good-ready, table-damaged, table-rising, table-kept}
+use Rattle.block_land.proofs.Ways.{land-damaged, land-rising, land-kept}
 use Rattle.block_land.proofs.BlockLand.find.Statement.{statement}
 use Rattle.block_land.proofs.BlockLand.find.Tie as tie
 
--- the table is sound, and what an aim keeps of it
-kept : (k : tie.After-enum-told3) → let arena = k .before .before .before .before .before .before .before in let a = arena .before .before .before .before .before .before .args in
+-- the land is sound, and what an aim keeps of it
+kept : (k : tie.After-enum-told3) → let arena = k .before .before .before .before .before .before in let a = arena .before .before .before .before .before .before .args in
     (aim : Aim) (d : Entry) → d ≡ entryOf aim (pairs (now (a .nodes)) (a .self .ranges)) → Looked (a .self) (now (a .nodes)) aim d
 kept k =
-    let table = k .before .before in
-    let arena = table .before .before .before .before .before in
+    let judged = k .before .before in
+    let arena = judged .before .before .before .before in
     let good = arena .before in
-    table-kept _ _ _ (good .before .before .set-up .ensures) (good .enum-told .given .1) _ (arena .good-arena .ensures) _ (table .sound .ensures) (k .enum-told3 .given .1)
+    land-kept _ _ _ (good .before .before .set-up .ensures) (good .enum-told .given .1) _ (arena .good-arena .ensures) _ (judged .judge .ensures) (k .enum-told3 .given .1)
 
 set-up-requires : tie.Need-set-up-requires
 set-up-requires c κs = search needs
@@ -56,8 +56,11 @@ check-find-requires c κs = search (good-positive block-land)
 find-size-requires : tie.Need-find-size-requires
 find-size-requires c κs = search needs
 
-sound-requires : tie.Need-sound-requires
-sound-requires c κs = search good-ready
+judge-requires : tie.Need-judge-requires
+judge-requires c κs =
+    let arena = c .before .before .before in
+    let good = arena .before in
+    (set-up-true _ _ (good .before .before .set-up .ensures) (good .enum-told .given .1), arena .good-arena .ensures)
 
 enum-told-3 : tie.Need-enum-told-3
 enum-told-3 c = search needs
@@ -73,15 +76,15 @@ same-length-2 c = search needs
 
 returns-2 : tie.Need-returns-2
 returns-2 c =
-    let table = c .before .before .before in
-    let size = table .before .before .before in
+    let judged = c .before .before .before in
+    let size = judged .before .before in
     let check = size .before in
     let arena = check .before in
     let good = arena .before in
     let up = good .before .before in
     let a = up .before .before .before .args in
     find-6 block-land _ _ (find (a .which) (a .size .0) (a .mode)) (set-up-true _ _ (up .set-up .ensures) (good .enum-told .given .1))
-    (table-damaged _ _ _ (up .set-up .ensures) (good .enum-told .given .1) _ (arena .good-arena .ensures) _ (table .sound .ensures) (c .before .enum-told4 .given .1)) _ (c .none-found2 .ensures)
+    (land-damaged _ _ _ (up .set-up .ensures) (good .enum-told .given .1) _ (arena .good-arena .ensures) _ (judged .judge .ensures) (c .before .enum-told4 .given .1)) _ (c .none-found2 .ensures)
 
 enum-told-5 : tie.Need-enum-told-5
 enum-told-5 c = search needs
@@ -95,7 +98,7 @@ same-length-3 c = search needs
 returns-3 : tie.Need-returns-3
 returns-3 c =
     let told = c .before .before in
-    let check = told .before .before .before .before .before .before in
+    let check = told .before .before .before .before .before in
     let arena = check .before in
     let a = arena .before .before .before .before .before .before .args in
     find-4 block-land _ _ (a .which) (a .size) _ (arena .good-arena .ensures) _ (check .check-find .ensures) _ _ (kept told Aim.Nothing _ refl)
@@ -104,17 +107,17 @@ returns-3 c =
 found-requires : tie.Need-found-requires
 found-requires c κs =
     let told = c .before .before .before in
-    let table = told .before .before in
-    let arena = table .before .before .before .before .before in
+    let judged = told .before .before in
+    let arena = judged .before .before .before .before in
     let good = arena .before in
-    table-rising _ _ _ (good .before .before .set-up .ensures) (good .enum-told .given .1) _ (arena .good-arena .ensures) _ (table .sound .ensures) (told .enum-told3 .given .1)
+    land-rising _ _ _ (good .before .before .set-up .ensures) (good .enum-told .given .1) _ (arena .good-arena .ensures) _ (judged .judge .ensures) (told .enum-told3 .given .1)
 
 find-at-requires : tie.Need-find-at-requires
 find-at-requires c κs =
     let found = c .before in
     let told5 = found .before .before in
     let told = told5 .before .before in
-    let size = told .before .before .before .before .before in
+    let size = told .before .before .before .before in
     let check = size .before in
     let arena = check .before in
     let a = arena .before .before .before .before .before .before .args in
@@ -140,7 +143,7 @@ find-spec =
     good-arena-requires
     check-find-requires
     find-size-requires
-    sound-requires
+    judge-requires
     enum-told-3
     enum-told-4
     none-found-requires-2

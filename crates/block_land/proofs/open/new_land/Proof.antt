@@ -7,8 +7,11 @@ use Rattle.block_land.proofs.open.new_land.Tie as tie
 new-requires : tie.Need-new-requires
 new-requires c κs = search needs
 
+unset-requires : tie.Need-unset-requires
+unset-requires c κs = search needs
+
 returns : tie.Need-returns
 returns c = search new-made
 
 pub new-land-spec : {M : Type 1} → statement M
-new-land-spec = tie.close (tie.spec new-requires returns)
+new-land-spec = tie.close (tie.spec new-requires unset-requires returns)

@@ -1,5 +1,5 @@
--- `ListLand::look` meets its contract: the set-up, then the one walk. Assumes nothing.
-use Rattle.model.proofs.lands.Ways.{good-align, good-positive, look-bad}
+-- `ListLand::look` meets its contract: the set-up, low water, then the one walk. Assumes nothing.
+use Rattle.model.proofs.lands.Ways.{good-align, good-positive, look-bad, look-low}
 use Rattle.list_land.proofs.Land.{list-land}
 use Rattle.list_land.proofs.Ways.{good-ready, look-damaged, look-sound}
 use borrow.Author.Needs.{needs}
@@ -18,6 +18,18 @@ enum-told-2 c = search needs
 returns : tie.Need-returns
 returns c = search (look-bad list-land)
 
+check-requires : tie.Need-check-requires
+check-requires c κs = search needs
+
+enum-told-3 : tie.Need-enum-told-3
+enum-told-3 c = search needs
+
+enum-told-4 : tie.Need-enum-told-4
+enum-told-4 c = search needs
+
+returns-2 : tie.Need-returns-2
+returns-2 c = search (look-low list-land)
+
 good-arena-requires : tie.Need-good-arena-requires
 good-arena-requires c κs = search (good-align list-land)
 
@@ -30,17 +42,25 @@ aim-of-requires c κs = search (good-positive list-land)
 survey-requires : tie.Need-survey-requires
 survey-requires c κs = search good-ready
 
-enum-told-3 : tie.Need-enum-told-3
-enum-told-3 c = search needs
+enum-told-5 : tie.Need-enum-told-5
+enum-told-5 c = search needs
 
 enum-known-spot : tie.Need-enum-known-spot
 enum-known-spot c = search needs
 
-returns-2 : tie.Need-returns-2
-returns-2 c = search look-damaged
-
 returns-3 : tie.Need-returns-3
-returns-3 c = search look-sound
+returns-3 c = search look-damaged
+
+returns-4 : tie.Need-returns-4
+returns-4 c =
+    let survey = c .before .before .before in
+    let chain = survey .before .before in
+    let arena = chain .before in
+    let low = arena .before in
+    let checked = low .before .before in
+    let good = checked .before .before in
+    look-sound _ _ _ _ (good .before .before .set-up .ensures) (good .enum-told .given .1) _ (arena .good-arena .ensures) _ (checked .check .ensures)
+    (low .enum-told3 .given .1) _ (survey .before .aim-of .ensures) _ (chain .chain .ensures) _ (survey .survey .ensures) _ (c .before .spot .given .1)
 
 pub look-spec : {M : Type 1} → statement M
 look-spec =
@@ -50,11 +70,15 @@ look-spec =
     enum-told
     enum-told-2
     returns
+    check-requires
+    enum-told-3
+    enum-told-4
+    returns-2
     good-arena-requires
     chain-requires
     aim-of-requires
     survey-requires
-    enum-told-3
+    enum-told-5
     enum-known-spot
-    returns-2
-    returns-3)
+    returns-3
+    returns-4)

@@ -10,8 +10,11 @@ new-requires c κs = search needs
 new-requires-2 : tie.Need-new-requires-2
 new-requires-2 c κs = search needs
 
+unset-requires : tie.Need-unset-requires
+unset-requires c κs = search needs
+
 returns : tie.Need-returns
 returns c = search new-made
 
 pub new-land-spec : {M : Type 1} → statement M
-new-land-spec = tie.close (tie.spec new-requires new-requires-2 returns)
+new-land-spec = tie.close (tie.spec new-requires new-requires-2 unset-requires returns)

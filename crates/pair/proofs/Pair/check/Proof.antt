@@ -2,9 +2,9 @@
 use mathlib.Core.Bool.{true}
 use mathlib.Core.Path.{_≡_}
 use denote.Ref.{now}
-use Rattle.units.proofs.Cases.{set-up-true}
+use Rattle.units.proofs.Cases.{set-up-true, sound-true}
 use Rattle.pair.specs.Calls.{setUp}
-use Rattle.pair.proofs.Checking.{check-up, check-align, check-arena, check-positive, check-words, check-table, check-rising, check-walk, check-good}
+use Rattle.pair.proofs.Checking.{check-up, check-low, check-align, check-arena, check-positive, check-words, check-table, check-rising, check-walk, check-good}
 use borrow.Author.Needs.{needs}
 use Rattle.pair.proofs.Pair.check.Statement.{statement}
 use Rattle.pair.proofs.Pair.check.Tie as tie
@@ -99,11 +99,29 @@ returns-3 c =
     check-walk (a .self) _ _ (a .aim) (good told) _ (arena .arena .ensures) _ (sound .sound .ensures) (table .enum-told3 .given .1)
     _ (divided .divided .ensures) _ (aim .aim-of .ensures) _ (chain .chain .ensures) _ (survey .survey .ensures) (c .enum-told5 .given .1)
 
+low-waters-requires : tie.Need-low-waters-requires
+low-waters-requires c κs = search needs
+
+enum-told-6 : tie.Need-enum-told-6
+enum-told-6 c = search needs
+
+enum-told-7 : tie.Need-enum-told-7
+enum-told-7 c = search needs
+
+returns-4 : tie.Need-returns-4
+returns-4 c =
+    let low = c .before .before in
+    let survey = low .before .before .before .before in
+    let divided = survey .before .before .before in
+    let arena = divided .before .before .before .before .before in
+    let told = arena .before .before .before in
+    let a = told .before .before .before .before .before .args in
+    check-low (a .self) _ _ (a .aim) (good told) _ (low .low-waters .ensures) (c .enum-told7 .given .1)
+
 entry-requires : tie.Need-entry-requires
 entry-requires c κs =
-    let survey = c .before .before .before in
-    let aim = survey .before .before in
-    let divided = aim .before in
+    let survey = c .before .before .before .before .before .before in
+    let divided = survey .before .before .before in
     let table = divided .before in
     let sound = table .before .before in
     let arena = sound .before .before in
@@ -111,9 +129,10 @@ entry-requires c κs =
     let a = told .before .before .before .before .before .args in
     check-rising (a .self) _ _ (a .aim) (good told) _ (arena .arena .ensures) _ (sound .sound .ensures) (table .enum-told3 .given .1)
 
-returns-4 : tie.Need-returns-4
-returns-4 c =
-    let spot = c .before .before in
+returns-5 : tie.Need-returns-5
+returns-5 c =
+    let low = c .before .before .before in
+    let spot = low .before .before in
     let survey = spot .before .before in
     let chain = survey .before in
     let aim = chain .before in
@@ -124,7 +143,8 @@ returns-4 c =
     let told = arena .before .before .before in
     let a = told .before .before .before .before .before .args in
     check-good (a .self) _ _ (a .aim) (good told) _ (arena .arena .ensures) _ (sound .sound .ensures) (table .enum-told3 .given .1)
-    _ (divided .divided .ensures) _ (aim .aim-of .ensures) _ (chain .chain .ensures) _ (survey .survey .ensures) _ (spot .spot .given .1) _ (c .entry .ensures)
+    _ (divided .divided .ensures) _ (aim .aim-of .ensures) _ (chain .chain .ensures) _ (survey .survey .ensures)
+    (sound-true _ _ (low .low-waters .ensures) (c .before .enum-told6 .given .1)) _ (spot .spot .given .1) _ (c .entry .ensures)
 
 pub check-spec : {M : Type 1} → statement M
 check-spec =
@@ -146,5 +166,9 @@ check-spec =
     enum-known-spot
     enum-told-5
     returns-3
+    low-waters-requires
+    enum-told-6
+    enum-told-7
+    returns-4
     entry-requires
-    returns-4)
+    returns-5)

@@ -14,7 +14,7 @@ cut-at-requires : tie.Need-cut-at-requires
 cut-at-requires c κs =
     let arena = c .before .before in
     let start = arena .before .before in
-    take-listed-holding _ _ (start .args .range) _ (arena .arena .ensures) _ (c .chain .ensures) _ (start .pre)
+    take-listed-holding (start .args .list) _ (start .args .range) _ (arena .arena .ensures) _ (c .chain .ensures) _ (start .pre)
 
 close-requires : tie.Need-close-requires
 close-requires c κs = search needs
@@ -28,7 +28,7 @@ returns c =
     let chain = cut .before in
     let arena = chain .before .before in
     let start = arena .before .before in
-    take-listed-done _ _ (start .args .range) _ (arena .arena .ensures) _ (chain .chain .ensures) _ _ (cut .cut-at .ensures) _ (c .close .ensures)
+    take-listed-done (start .args .list) _ (start .args .range) _ (arena .arena .ensures) _ (chain .chain .ensures) _ _ (cut .cut-at .ensures) _ (c .close .ensures)
 
 pub take-listed-spec : {M : Type 1} → statement M
 take-listed-spec =

@@ -1,8 +1,8 @@
 //! All calls on all small pairs: every unit of the arena is free in no land, in the list, in the block land, or in both.
 
-use limbegoru_model::{block, list, Arena, BlockHandle, Call, ListHandle, Pair};
+use limbegoru_model::{block, list, Arena, Call};
 
-use super::super::exhaustive::{arena, calls, ranges_of, FILL};
+use super::super::exhaustive::{arena, block_handles, calls, list_handles, pairs_of, ranges_of, FILL, SOUND};
 use crate::compare::Report;
 use crate::lent::Lent;
 use crate::run::Run;
@@ -36,19 +36,24 @@ fn all_pairs(run: &mut Run, arena: Arena, digits: u64) -> Result<(), Report> {
     Ok(())
 }
 
-/// All calls on a pair of these units, with the capacities up to 3, with an odd last word and without.
+/// All calls on a pair of these units, with the capacities up to 3, with an odd last word and without. The calls meet
+/// the sound marks and low waters of both lands in turn; then some of them meet all, sound or not.
 fn all_calls(run: &mut Run, arena: &Arena, free: [u64; 2], calls: &[Call]) -> Result<(), Report> {
     let [listed, tabled] = free.map(|bits| ranges_of(arena, bits));
-    let pair = Pair { list: ListHandle::of(arena, &listed), block: BlockHandle::of(arena, &tabled) };
+    let (lists, blocks) = (list_handles(arena, &listed), block_handles(arena, &tabled));
+    let (sound, any) = (pairs_of(&lists[..SOUND], &blocks[..SOUND]), pairs_of(&lists, &blocks));
     let mut words = vec![FILL; arena.words() as usize];
     list::write(arena, &listed, &mut words);
     for length in 2 * tabled.len()..8 {
         let mut nodes = vec![FILL; length];
         block::write(&tabled, &mut nodes);
-        for call in calls {
+        let turn = free[0] as usize + 3 * free[1] as usize + length;
+        let each_call = calls.iter().zip(sound.iter().cycle().skip(turn % sound.len()));
+        let some_calls = calls.iter().cycle().skip(turn % calls.len()).zip(&any);
+        for (call, pair) in each_call.chain(some_calls) {
             let mut words = Lent::new(&words, &[FILL], &[FILL]);
             let mut nodes = Lent::new(&nodes, &[FILL], &[FILL]);
-            run.pair_call(pair, [&mut words, &mut nodes], call)?;
+            run.pair_call(*pair, [&mut words, &mut nodes], call)?;
         }
     }
     Ok(())

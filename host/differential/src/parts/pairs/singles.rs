@@ -3,18 +3,19 @@
 use limbegoru_model::answer::FULL;
 use limbegoru_model::Pair;
 
-use crate::branches::FAULTS;
+use crate::branches::{BETWEEN, FAULTS};
 use crate::compare::Report;
 use crate::generate::{self, Mix};
 use crate::run::Run;
 use crate::two;
 
-/// Single calls on pairs. Every fault is met often, and every answer but 3, which only a block land gives.
+/// Single calls on pairs. Every fault is met often, so are low waters that are not read inside a call, and every answer
+/// but 3, which only a block land gives.
 pub fn drawn(run: &mut Run, calls: u64) -> Result<(), Report> {
     while run.tally.calls() < calls {
         state(run)?;
     }
-    super::each_often(run, &[FAULTS.as_slice(), &["the lands touch"]].concat());
+    super::each_often(run, &[FAULTS.as_slice(), &BETWEEN, &["the lands touch"]].concat());
     for (answer, count) in run.tally.answers.iter().enumerate() {
         let good = if answer as u64 == FULL { *count == 0 } else { *count >= run.tally.calls() / 1000 };
         assert!(good, "{answer}: {count} times in {:?}", run.tally);

@@ -5,7 +5,7 @@ mod finds;
 mod refusals;
 
 use differential::given::{Given, Lands};
-use limbegoru_model::{block, flush, list, Call, Done, Pair, Range};
+use limbegoru_model::{block, flush, list, BlockHandle, Call, Done, ListHandle, LowWater, Pair, Range};
 
 use crate::PairCall;
 
@@ -42,17 +42,29 @@ impl PairCall<'_> {
         let Pair { list, block } = self.done.land;
         let flushed = flush::flush(list, self.words, block, self.nodes);
         self.done.land = Pair { list: flushed.list, block: flushed.block };
+        self.read_low_water_once();
     }
 
     /// A call of the list land on what the call left.
     fn by_list(&mut self, call: Call) {
         let Done { land, answer, range, old } = list::call(self.done.land.list, self.words, &call);
         *self.done = Done { land: Pair { list: land, ..self.done.land }, answer, range, old };
+        self.read_low_water_once();
     }
 
     /// A call of the block land on what the call left.
     fn by_block(&mut self, call: Call) {
         let Done { land, answer, range, old } = block::call(self.done.land.block, self.nodes, &call);
         *self.done = Done { land: Pair { block: land, ..self.done.land }, answer, range, old };
+        self.read_low_water_once();
+    }
+
+    /// Low water as one accepted call that leaves these bytes gives it, so that a slip differs in nothing else.
+    fn read_low_water_once(&mut self) {
+        let Pair { list, block } = &mut self.done.land;
+        let LowWater { filled, low } = self.pair.list.low_water().noted(list.bytes);
+        *list = ListHandle { filled, low, ..*list };
+        let LowWater { filled, low } = self.pair.block.low_water().noted(block.bytes);
+        *block = BlockHandle { filled, low, ..*block };
     }
 }
