@@ -81,7 +81,7 @@ static inline const char *lg_answer_text(uint64_t answer) {
     case LG_ANSWER_NONE:
         return "no range qualifies";
     case LG_ANSWER_FULL:
-        return "the block land would have more ranges than its capacity";
+        return "insert, delete: the block land would have more ranges than its capacity";
     case LG_ANSWER_REQUEST:
         return "the range, the size or the mode breaks the rules";
     case LG_ANSWER_SET_UP:
@@ -208,7 +208,8 @@ LG_KEEP lg_list_changed lg_list_insert_at(lg_list_land *land, uint64_t *words, s
 LG_KEEP lg_list_changed lg_list_delete_at(lg_list_land *land, uint64_t *words, size_t n, lg_range range);
 LG_KEEP lg_list_changed lg_list_walk_at(lg_list_land *land, const uint64_t *words, size_t n, uint64_t from);
 
-/* The same calls on a block land, whose ranges stand in node space. The opening sets all pair words to 0. */
+/* The same calls on a block land, whose ranges stand in node space. The opening sets all pair words to 0. Only insert and
+ * delete may be answered 3: a find leaves no more ranges than it met, and needs no room in node space. */
 LG_KEEP lg_block_opened lg_block_open(uint64_t base, uint64_t limit, uint64_t align, uint64_t *nodes, size_t m);
 LG_KEEP lg_block_changed lg_block_insert(lg_block_land land, uint64_t *nodes, size_t m, lg_range range);
 LG_KEEP lg_block_changed lg_block_delete(lg_block_land land, uint64_t *nodes, size_t m, lg_range range);

@@ -1,5 +1,6 @@
 """What document 01 says of both lands: the arena rules, the order of the checks, and the calls on a set of free bytes; and
-request K10 of document 02, the mark and the low water of a handle.
+of document 02 request K10, the mark and the low water of a handle, and request K11, by which only an insert and a delete are
+answered 3.
 
 What is free is a Python set of bytes, and the isolated ranges are the runs of that set. Where every end and size of a call
 is a multiple of a larger step, the set holds one byte of each step: the step is then free as a whole or not at all.
@@ -127,7 +128,7 @@ def found_by(op, met, size, mode):
 
 
 def outcome(op, h, met, a, b):
-    """What a call does to the isolated ranges `met`, where a table has room for it."""
+    """What a call does to the isolated ranges `met`; of an insert or a delete, where a table has room for it."""
     if op in (INSERT, DELETE):
         if not h.base <= a < b <= h.limit or a % h.align or b % h.align:
             return refusal(4)
@@ -170,7 +171,7 @@ def call(land, op, h, words, a, b):
     out = outcome(op, h, met, a, b)
     if out.answer:
         return refused(out.answer, h, words)
-    if not land.fits(out.ranges, words):
+    if op in (INSERT, DELETE) and not land.fits(out.ranges, words):
         return refused(3, h, words)
     handle, after = land.laid(h, words, out.ranges)
     assert land.met(handle, after) == out.ranges

@@ -1,4 +1,4 @@
--- Demand 3 of the block land: an instance of the theorem of `model`. Assumes nothing.
+-- Demand 3 of the block land, its finds and node space, and low water: instances of theorems of `model`. Assumes nothing.
 use Prim.Native.Nat.{ℕ}
 use mathlib.Core.Bool.{true}
 use mathlib.Core.List.{List, []}
@@ -7,11 +7,12 @@ use native.Mathlib.Omega.{arith}
 use Rattle.units.proofs.Tests.{by}
 use Rattle.model.proofs.DemandMet.{demand-3}
 use Rattle.model.proofs.LowWaters.{low-over-closings}
+use Rattle.model.proofs.NodeSpace.{land-finds-no-more, histories-as-01}
 use Rattle.block_words.specs.Words.{fill}
 use Rattle.block_words.proofs.Filling.{length-fill}
 use Rattle.block_land.specs.Layout.{setUp, layout}
 use Rattle.block_land.specs.Calls.{newLand, openedOf, openedWords}
-use Rattle.block_land.specs.Claims.{BlockDemand3, BlockLow}
+use Rattle.block_land.specs.Claims.{BlockDemand3, BlockFindsNoMore, BlockAs01, BlockLow}
 use Rattle.block_land.proofs.LayoutLaws.{read-filled, block-laws}
 
 pub record Opens (b l a : ℕ) (ws : List ℕ) : Type 0 where
@@ -32,6 +33,13 @@ block-demand-3 b l a ws e cs os t =
     let h = newLand b l a in
     rw (length-fill [] ws) at
     (demand-3 layout block-laws h (fill [] ws) [] (read-filled h ws [] (g .good) tt tt (omega arith)) cs os (rw (g .land, g .words) at t))
+
+-- FINDS AND NODE SPACE
+pub block-finds-no-more : BlockFindsNoMore
+block-finds-no-more = land-finds-no-more layout block-laws
+
+pub block-as-01 : BlockAs01
+block-as-01 = histories-as-01 layout block-laws
 
 -- LOW WATER OVER CALLS OF ANY KIND
 pub block-low : BlockLow

@@ -2,6 +2,7 @@
 use Prim.Native.Nat.{ℕ, _+_, _-_, _≤_}
 use mathlib.Core.Bool.{Bool, true, false}
 use mathlib.Core.List.{List, [], _∷_}
+use mathlib.Core.Logic.{_⊎_}
 use mathlib.Core.Path.{_≡_, sym, subst, _∙_}
 use native.Mathlib.Omega.{arith}
 use lib.Dec.{eqb}
@@ -21,15 +22,15 @@ use Rattle.model.specs.inner.Lists.{delete-from, plain}
 use Rattle.model.specs.Marks.{struct, total}
 use Rattle.model.specs.inner.Steps.{part}
 use Rattle.model.proofs.lands.FindAnswers as answers
-use Rattle.model.proofs.lands.FindAnswers.{find-long, find-part, find-fewer}
+use Rattle.model.proofs.lands.FindAnswers.{find-long, find-part}
 use Rattle.model.proofs.Parts.{PartOf}
 use Rattle.model.proofs.Totals.{total-delete}
 use Rattle.finds.specs.inner.Parts.{Within}
-use Rattle.block_words.specs.Words.{capacity, fill}
+use Rattle.block_words.specs.Words.{fill}
 use Rattle.block_words.specs.inner.Surveys.{entryOf}
 use Rattle.block_words.specs.declared.Entry.{Entry}
 use Rattle.block_edits.specs.inner.Edits.{remaining}
-use Rattle.block_edits.specs.inner.Places.{Holding}
+use Rattle.block_edits.specs.inner.Places.{Holding, AtEnd}
 use Rattle.block_edits.proofs.Entering.{Numbered, kept-numbered}
 use Rattle.block_land.specs.Calls.{found, foundOf}
 use Rattle.block_land.specs.Layout.{base, limit, align, arenaOf, tableOf, closedWith}
@@ -56,26 +57,24 @@ module _ (h : BlockLand) (ws : List ℕ) (w : Which) (n : Size) (mode : Mode) (d
     takes : PartOf (align h) (tableOf h ws) (plain (d .here)) (plain y)
     takes = find-part block-land h ws w n mode d k g t et f a ea m em o y ey
 
+    entered : Numbered ws (h .ranges) d
+    entered =
+        let z : isNone (entryOf (findAim h w n) (tableOf h ws) .here) ≡ false = rw (k .kept) at (sym et ∙ f) in
+        rw (k .kept) (kept-numbered ws (h .ranges) (findAim h w n) (fit .fits) z)
+
     -- the entry holds it
     pub find-holding : Holding ws (h .ranges) (d .number) y
-    find-holding =
-        let z : isNone (entryOf (findAim h w n) (tableOf h ws) .here) ≡ false = rw (k .kept) at (sym et ∙ f) in
-        let e : Numbered ws (h .ranges) d = rw (k .kept) (kept-numbered ws (h .ranges) (findAim h w n) (fit .fits) z) in
-        record {
-          sorted = sorted h ws read;
-          inside = e .inside;
-          low = subst (λ (x : units.Range). x .base .0 ≤ y .base .0) (e .here) (takes .low);
-          proper = takes .proper;
-          high = subst (λ (x : units.Range). y .limit .0 ≤ x .limit .0) (e .here) (takes .high);
-        }
+    find-holding = record {
+      sorted = sorted h ws read;
+      inside = entered .inside;
+      low = subst (λ (x : units.Range). x .base .0 ≤ y .base .0) (entered .here) (takes .low);
+      proper = takes .proper;
+      high = subst (λ (x : units.Range). y .limit .0 ≤ x .limit .0) (entered .here) (takes .high);
+    }
 
-    -- there is room for what is left
-    pub find-fits : length (remaining ws (h .ranges) y) ≤ capacity ws
-    find-fits =
-        let u = find-fewer block-land h ws w n mode d k g t et f a ea m em o y ey in
-        let c = fit .count in
-        let v = fit .fits in
-        omega arith
+    -- it reaches an end of the pair
+    pub find-end : AtEnd ws (d .number) y
+    find-end = subst (λ (x : units.Range). (y .base .0 ≡ x .base .0) ⊎ (y .limit .0 ≡ x .limit .0)) (entered .here) (takes .at-end)
 
     pub find-order : y .base .0 ≤ y .limit .0
     find-order = let u = takes .proper in omega arith

@@ -29,7 +29,7 @@ fn none_found(land: BlockLand, answer: u64) -> Found
 }
 
 impl BlockLand {
-    // A find of a good size in a sound table, at the entry chosen. What is left always has room.
+    // A find of a good size in a sound table, at the entry chosen. It needs no room: the part reaches an end of its range.
     fn find_at(self, nodes: &mut [u64], which: Which, size: Size, mode: Mode, entry: Entry) -> Found
         requires { ⌜ Looked self (now nodes) (findAim self which size) entry ⌝ }
         requires { ⌜ good-size (arenaOf self (now nodes)) which (size .0) ≡ true ⌝ }

@@ -1,13 +1,13 @@
 -- Low water, noted after each accepted call, is the least of the free bytes that count: one law on a list of numbers (`none-yet`,
 -- `one-more`), and its instances. Assumes nothing.
-use mathlib.Core.Path.{_≡_, refl, sym, ap, _∙_, subst}
+use mathlib.Core.Path.{_≡_, refl, ap, _∙_, subst}
 use mathlib.Core.Bool.{Bool, true, false, cond}
 use mathlib.Core.List.{List, [], _∷_, _++_, append-nil, append-assoc}
 use mathlib.Core.Logic.{_⊎_, inl, inr}
 use Prim.Native.Nat.{ℕ, _≤_}
 use native.Mathlib.Omega.{arith}
 use lib.Dec.{ltb, eqb}
-use borrow.Author.Tests.{eqb-true, eqb-false, eq-eqb}
+use borrow.Author.Tests.{eqb-true, eqb-false}
 use Rattle.units.specs.declared.low_water.LowWater.{LowWater}
 use Rattle.units.specs.LowWater.{unset, noted}
 use Rattle.units.proofs.Tests.{by, tests}

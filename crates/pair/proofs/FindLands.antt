@@ -13,7 +13,7 @@ use Rattle.model.specs.inner.Steps.{list-ops, choose, part, taken, step}
 use Rattle.model.proofs.Chosen.{some-chosen}
 use Rattle.model.proofs.lands.FindAnswers.{find-aim, chosen}
 use Rattle.model.proofs.lands.Land.{Land}
-use Rattle.model.proofs.lands.Looking.{fine, step-done}
+use Rattle.model.proofs.lands.Looking.{step-done}
 use Rattle.pair_model.proofs.LandFinds.{find-gives}
 
 -- an accepted step of a land
@@ -34,8 +34,8 @@ module _ {H L S C F : Type 0} (I : Land H L S C F) (h : H) (ws : List ℕ) (w : 
       record {
         part = part w mode want (c .range);
         old = c .range;
-        next = taken list-ops (I .layout .arena h ws) mode (I .ranges h ws) (part w mode want (c .range));
-        step = find-gives (I .layout .arena h ws) (I .ranges h ws) (fine I h ws (find-aim I h ws w n) s (k .looked)) w (n .0) mode (k .good) (some (c .range)) (c .is);
+        next = taken list-ops mode (I .ranges h ws) (part w mode want (c .range));
+        step = find-gives (I .layout .arena h ws) (I .ranges h ws) w (n .0) mode (k .good) (some (c .range)) (c .is);
       }
 
   pub find-done : I .does (find w (n .0) mode) h ws ≡ record {

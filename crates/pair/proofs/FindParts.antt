@@ -97,7 +97,7 @@ module _ (p : Pair) (vs : List ℕ) (w : Which) (n : Size) (mode : Mode) (e : En
       readable = readable (p .block) vs (block-parts.findAim (p .block) w n) e (k .looked);
       at-pair = block-finds.find-holding (p .block) vs w n mode e (k .looked) (k .good) _ refl (k .there) a ea m em o y ey;
       held = find-part block-land (p .block) vs w n mode e (k .looked) (k .good) _ refl (k .there) a ea m em o y ey .held;
-      fits = block-finds.find-fits (p .block) vs w n mode e (k .looked) (k .good) _ refl (k .there) a ea m em o y ey;
+      at-end = block-finds.find-end (p .block) vs w n mode e (k .looked) (k .good) _ refl (k .there) a ea m em o y ey;
     }
 
     pub block-0 : (z : BlockLand) (vs' : List ℕ) → (z ≡ block.closed (p .block) (tableLess (p .block) vs y)) × (vs' ≡ fill (tableLess (p .block) vs y) vs) →

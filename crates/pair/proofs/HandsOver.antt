@@ -1,11 +1,10 @@
 -- A delete in the block land that has no room: the lower fragment stays there, and the upper goes to the list. Assumes nothing.
-use Prim.Native.Nat.{ℕ, _≤_, _<_}
+use Prim.Native.Nat.{ℕ, _<_}
 use mathlib.Core.Bool.{true, false}
 use mathlib.Core.List.{List}
 use mathlib.Core.Logic.{inr}
-use mathlib.Core.Path.{_≡_, refl, sym, ap, subst, _∙_}
+use mathlib.Core.Path.{_≡_, sym, ap, subst, _∙_}
 use native.Mathlib.Omega.{arith}
-use lib.ListN.{length}
 use borrow.Author.Tests.{ne-eqb}
 use Rattle.units.specs.inner.Aims.{isNone}
 use Rattle.units.specs.Words.{rangeOf}
@@ -19,7 +18,6 @@ use Rattle.model.specs.inner.Lists.{overlaps, holds, holder, insert-in, delete-
 use Rattle.model.specs.inner.Picks.{here-of}
 use Rattle.model.proofs.Bytes.{mem-from, mem-upto}
 use Rattle.model.proofs.Bytewise.{holds-all}
-use Rattle.model.proofs.Counting.{cut-end}
 use Rattle.model.proofs.Parts.{Stands, mem-stands}
 use Rattle.model.proofs.lands.Looking.{kept-reach}
 use Rattle.model.proofs.Requests.{range-rules, rules-range}
@@ -30,7 +28,7 @@ use Rattle.list_words.specs.declared.Spot.{Spot}
 use Rattle.list_land.specs.Layout as list
 use Rattle.list_land.specs.inner.Parts.{arenaIn, chainIn, reachLimit}
 use Rattle.list_land.specs.declared.ListLand.{ListLand}
-use Rattle.block_words.specs.Words.{capacity, fill}
+use Rattle.block_words.specs.Words.{fill}
 use Rattle.block_words.specs.declared.Entry.{Entry}
 use Rattle.block_edits.specs.inner.Places.{Holding}
 use Rattle.block_edits.proofs.Entering.{Numbered, kept-numbered}
@@ -155,13 +153,6 @@ module _ (p : Pair) (ws vs : List ℕ) (y : units.Range) (s : Spot) (e : Entry) 
       is-above : m ≡ rangeOf b (q .limit)
       is-above = em ∙ ap (λ (r : units.Range). rangeOf b (r .limit .0)) q-here
 
-      room : length (delete-from b (q .limit) qs) ≤ capacity vs
-      room =
-          let c = cut-end (a .base) (a .limit) qs q b (q .limit) (fine .apart) (in-q .mem) (in-q .low) low (omega arith) (inr refl) in
-          let n = fine .count in
-          let f = fine .fits in
-          omega arith
-
       at-pair : Holding vs (p .block .ranges) (e .number) (rangeOf b (q .limit))
       at-pair =
           let h = sym q-here ∙ numbered .here in
@@ -183,7 +174,7 @@ module _ (p : Pair) (ws vs : List ℕ) (y : units.Range) (s : Spot) (e : Entry) 
             readable = readable p ws vs y s e asked;
             at-pair = at-pair;
             held = holds-rest;
-            fits = room;
+            at-end = inr (ap (λ (r : units.Range). r .limit .0) (sym q-here ∙ numbered .here));
           })
 
       pub over-0 : (h : ListLand) (ws' : List ℕ) → (h ≡ list.closed (p .list) (listMore (p .list) ws u)) × (ws' ≡ lay (list.base (p .list)) (listMore (p .list) ws u) ws) →

@@ -19,7 +19,7 @@ pub(crate) fn take_listed(list: ListLand, words: &mut [u64], range: Range, spot:
     list.close(chain.head, chain.ranges, chain.bytes)
 }
 
-// Takes a part out of pair i of a sound table, where there is room for what is left.
+// Takes a part that reaches an end of pair i of a sound table out of it.
 pub(crate) fn take_tabled(block: BlockLand, nodes: &mut [u64], i: usize, range: Range) -> BlockLand
     requires { ⌜ TakingTabled block (now nodes) i range ⌝ }
     ensures { λ r. ⌜ (r ≡ block-layout.closed block (tableLess block (now (nodes .entry)) range)) × (now (nodes .exit) ≡ fill (tableLess block (now (nodes .entry)) range) (now (nodes .entry))) ⌝ }

@@ -107,7 +107,7 @@ impl Pair {
         }
     }
 
-    // The find in the block land, at the entry chosen. What is left always has room.
+    // The find in the block land, at the entry chosen. It needs no room: the part reaches an end of its range.
     fn find_in_block(
         self,
         nodes: &mut [u64],

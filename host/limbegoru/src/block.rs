@@ -120,7 +120,18 @@ impl<'w> BlockLand<'w> {
     }
 
     /// Finds the isolated range of at least the size with the lowest base. The size is a multiple of the alignment, and
-    /// not 0.
+    /// not 0. No find needs room in node space: it leaves no more ranges than it met.
+    ///
+    /// ```
+    /// # use limbegoru::{BlockLand, Mode, Range, Refusal};
+    /// let mut nodes = [0; 2]; // room for one range
+    /// let mut land = BlockLand::open(4096, 4160, 8, &mut nodes)?;
+    /// land.insert(Range::new(4096, 4120))?;
+    /// assert_eq!(land.find_first(8, Mode::Low)?.range, Range::new(4096, 4104));
+    /// assert_eq!(land.find_first(8, Mode::High)?.range, Range::new(4112, 4120));
+    /// assert_eq!(land.walk(0), Ok(Range::new(4104, 4112)));
+    /// # Ok::<(), Refusal>(())
+    /// ```
     #[inline]
     pub fn find_first(&mut self, size: u64, mode: Mode) -> Result<Found, Refusal> {
         let found = calls::block_find_first(self.handle, self.nodes, size, mode.number());

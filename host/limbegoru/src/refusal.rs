@@ -13,7 +13,7 @@ pub enum Refusal {
     Overlap = 1,
     /// No range qualifies.
     NoneFound = 2,
-    /// The block land would have more ranges than its capacity.
+    /// Insert, delete: the block land would have more ranges than its capacity. No find answers it.
     Full = 3,
     /// The range, the size or the mode breaks the rules.
     Request = 4,
@@ -65,7 +65,7 @@ impl fmt::Display for Refusal {
         f.write_str(match self {
             Refusal::Overlap => "insert: some byte is already free; delete: some byte is not free",
             Refusal::NoneFound => "no range qualifies",
-            Refusal::Full => "the block land would have more ranges than its capacity",
+            Refusal::Full => "insert, delete: the block land would have more ranges than its capacity",
             Refusal::Request => "the range, the size or the mode breaks the rules",
             Refusal::SetUp => {
                 "the handle's fixed fields or the lent lengths break the arena rules, or two lands have two arenas"

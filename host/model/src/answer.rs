@@ -6,7 +6,7 @@ pub const ACCEPTED: u64 = 0;
 pub const OVERLAP: u64 = 1;
 /// No range qualifies.
 pub const NONE_FOUND: u64 = 2;
-/// The set would afterwards have more ranges than the capacity.
+/// Insert, delete: the set would afterwards have more ranges than the capacity.
 pub const FULL: u64 = 3;
 /// The range or size (or the mode's number) breaks the rules.
 pub const REQUEST: u64 = 4;

@@ -4,6 +4,8 @@
 //! with its range, or its size and mode; it sees no answer, no handle and no word. It marks bytes of the arena: one
 //! mark stands for the bytes of one unit of the alignment, since no call that keeps the rules divides a unit.
 //!
+//! By request K11 the capacity is tested in an insert and a delete alone: no find answers 3.
+//!
 //! For request K10 it keeps the history's totals: the number of marked bytes after each step that answers 0. A walk and
 //! a find in mode *none* leave the total as it was, so it makes no difference that no walk is fed.
 
@@ -118,7 +120,7 @@ impl Ledger {
         let mut marks = self.marks.clone();
         marks[units.clone()].fill(true);
         let range = self.around(&marks, units.start);
-        self.leave(marks, range, Range::NOTHING)
+        self.leave(marks, range)
     }
 
     /// Delete: 1 if a byte of the range is not marked. Otherwise it returns the isolated range that contains it, and
@@ -134,7 +136,7 @@ impl Ledger {
         let containing = self.around(&self.marks, units.start);
         let mut marks = self.marks.clone();
         marks[units].fill(false);
-        self.leave(marks, containing, Range::NOTHING)
+        self.leave(marks, containing)
     }
 
     /// Finds: 2 if no isolated range qualifies. Otherwise they choose and return as under Calls, and unmark the found
@@ -153,11 +155,11 @@ impl Ledger {
         if find != Find::Largest && mode == MODE_HIGH {
             found.base = old.limit - size;
         }
-        let mut marks = self.marks.clone();
         if mode != MODE_NONE {
-            marks[self.unit(found.base)..self.unit(found.limit)].fill(false);
+            let units = self.unit(found.base)..self.unit(found.limit);
+            self.marks[units].fill(false);
         }
-        self.leave(marks, found, old)
+        Entry { answer: 0, range: found, old }
     }
 
     /// Moves the isolated ranges in address order to the block land, until one is refused.
@@ -210,15 +212,15 @@ impl Ledger {
         chosen
     }
 
-    /// In a block land, a step that would leave more isolated ranges than the capacity answers 3 instead. Any other
-    /// step answers 0.
-    fn leave(&mut self, marks: Vec<bool>, range: Range, old: Range) -> Entry {
+    /// In a block land, an insert or a delete that would leave more isolated ranges than the capacity answers 3 instead.
+    /// Any other answers 0.
+    fn leave(&mut self, marks: Vec<bool>, range: Range) -> Entry {
         let begins = |i: &usize| marks[*i] && (*i == 0 || !marks[*i - 1]);
         let count = (0..marks.len()).filter(begins).count() as u64;
         if self.capacity.is_some_and(|capacity| count > capacity) {
             return Entry::refused(3);
         }
         self.marks = marks;
-        Entry { answer: 0, range, old }
+        Entry { answer: 0, range, old: Range::NOTHING }
     }
 }

@@ -1,5 +1,5 @@
-//! A model of document 01 and of the requests K4 and K10: what every call on a list land, a block land or a pair of
-//! them answers, returns and leaves in the lent words.
+//! A model of document 01 and of the requests K4, K10 and K11: what every call on a list land, a block land or a pair
+//! of them answers, returns and leaves in the lent words.
 //!
 //! It is written from the papers alone and in their order, and it works the plain way: the words are read as a set
 //! of ranges or found not sound, the call is done on the set, and the words of the set are written. Every function is
@@ -8,7 +8,7 @@
 //! * [`arena`]: arena, addresses, sizes
 //! * [`list`]: handle, words and calls of the list land
 //! * [`block`]: handle, words and calls of the block land
-//! * [`set`]: the calls on a set of isolated ranges, and their order of checks
+//! * [`set`]: the calls on a set of isolated ranges, and their order of checks; request K11, no 3 of a find
 //! * [`flush`]: the flush
 //! * [`low_water`]: request K10, the mark and the low water of a handle
 //! * [`ledger`]: the ledger of demand 3, with the history's totals that request K10 reads

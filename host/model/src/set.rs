@@ -98,7 +98,8 @@ fn part(old: Range, find: Find, size: u64, mode: u64) -> Range {
     }
 }
 
-/// The finds. *None* removes nothing, the others remove the found range.
+/// The finds. *None* removes nothing, the others remove the found range. It is all of the old range or lies at an end
+/// of it, so that no find leaves more ranges than it met.
 fn find(set: &[Range], find: Find, size: u64, mode: u64) -> Result<Step, u64> {
     let old = choose(set, find, size).ok_or(NONE_FOUND)?;
     let range = part(old, find, size, mode);
@@ -125,20 +126,24 @@ fn keeps_the_rules(arena: &Arena, call: &Call) -> bool {
     }
 }
 
-/// A call on the isolated ranges of a land, or the number of its refusal, checked in the order 4, 1 or 2, 3. A list
-/// land has no capacity.
+/// 3 for an insert or a delete that would leave more ranges than the capacity. A list land has no capacity.
+fn with_room(capacity: Option<u64>, step: Step) -> Result<Step, u64> {
+    match capacity {
+        Some(capacity) if step.after.len() as u64 > capacity => Err(FULL),
+        _ => Ok(step),
+    }
+}
+
+/// A call on the isolated ranges of a land, or the number of its refusal, checked in the order 4, 1 or 2, 3. Only an
+/// insert and a delete are answered 3.
 pub fn step(arena: &Arena, capacity: Option<u64>, set: &[Range], call: &Call) -> Result<Step, u64> {
     if !keeps_the_rules(arena, call) {
         return Err(REQUEST);
     }
-    let step = match *call {
-        Call::Insert(range) => insert(set, range)?,
-        Call::Delete(range) => delete(set, range)?,
-        Call::Find(which, size, mode) => find(set, which, size, mode)?,
-        Call::Walk(from) => walk(set, from)?,
-    };
-    match capacity {
-        Some(capacity) if step.after.len() as u64 > capacity => Err(FULL),
-        _ => Ok(step),
+    match *call {
+        Call::Insert(range) => with_room(capacity, insert(set, range)?),
+        Call::Delete(range) => with_room(capacity, delete(set, range)?),
+        Call::Find(which, size, mode) => find(set, which, size, mode),
+        Call::Walk(from) => walk(set, from),
     }
 }

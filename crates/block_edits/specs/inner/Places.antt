@@ -2,6 +2,8 @@
 use Prim.Native.Nat.{ℕ, _+_, _-_, _*_, _≤_, _<_}
 use mathlib.Core.Bool.{Bool, false, cond}
 use mathlib.Core.List.{List, [], _∷_}
+use mathlib.Core.Logic.{_⊎_}
+use mathlib.Core.Path.{_≡_}
 use lib.Dec.{leb, ltb, eqb}
 use lib.ListN.{getD}
 use Rattle.units.specs.Words.{rangeOf}
@@ -55,6 +57,10 @@ pub record Holding (ws : List ℕ) (n i : ℕ) (y : units.Range) : Type 0 where
   pub low : getD ws (2 * i) 0 ≤ y .base .0
   pub proper : y .base .0 < y .limit .0
   pub high : y .limit .0 ≤ getD ws (2 * i + 1) 0
+
+-- It reaches an end of pair i.
+abbrev pub AtEnd : List ℕ → ℕ → units.Range → Type 0
+AtEnd ws i y = (y .base .0 ≡ getD ws (2 * i) 0) ⊎ (y .limit .0 ≡ getD ws (2 * i + 1) 0)
 
 -- Of two ranges those that are not empty, before others.
 abbrev pub rest : units.Range → units.Range → List Range → List Range

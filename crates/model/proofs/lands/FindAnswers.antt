@@ -6,7 +6,6 @@ use mathlib.Core.Option.{Option, none, some}
 use mathlib.Core.Path.{_≡_, refl, sym, ap, ap₂, _∙_}
 use native.Mathlib.Omega.{arith}
 use lib.Dec.{eqb}
-use lib.ListN.{length}
 use types.Run.{OneOf}
 use denote.Enum.Declared.{tagOf}
 use Rattle.units.specs.inner.Aims.{none-range, findAim, aimOf}
@@ -33,7 +32,6 @@ use Rattle.model.proofs.Bytes.{mem-proper}
 use Rattle.model.proofs.Checks.{size-bad, size-good}
 use Rattle.model.proofs.Choosing.{choose-mem}
 use Rattle.model.proofs.Chosen.{Choice, none-chosen, some-chosen}
-use Rattle.model.proofs.Counting.{room-for-fewer, cut-end}
 use Rattle.model.proofs.Finding.{find-none, find-takes}
 use Rattle.model.proofs.lands.Land.{Land}
 use Rattle.model.proofs.lands.Ways.{above}
@@ -168,24 +166,16 @@ module _ {H L S C F : Type 0} (I : Land H L S C F) (h : H) (ws : List ℕ) where
           abbrev less : List Range
           less = delete-from (y .base .0) (y .limit .0) (I .ranges h ws)
 
-          -- no range more is left, so there is room
-          pub find-fewer : length less ≤ length (I .ranges h ws)
-          find-fewer =
-              let t : PartOf (I .layout .arena h ws .align) rs q (plain y) = rw (choice .here) at find-part in
-              cut-end (I .layout .arena h ws .base) (I .layout .arena h ws .limit) rs q (y .base .0) (y .limit .0) (fine I h ws aim s k .canon .apart)
-              (choose-mem w want rs q (choice .is) .0) (t .low) (t .proper) (t .high) (t .at-end)
-
           pub find-0 : (z : H) → z ≡ I .layout .close h less → (vs : List ℕ) → vs ≡ I .layout .words h ws less →
               Finds I (I .find-made z 0 y (I .here s)) vs (I .does (find w (n .0) mode) h ws)
           find-0 z ez vs ev =
-              let u = room-for-fewer (I .layout .arena h ws .room) (length rs) (length less) (fine I h ws aim s k .room) find-fewer in
               done-find I h ws aim s k (find w (n .0) mode) p q (delete-from (p .base) (p .limit) rs)
-              (find-takes (I .layout .arena h ws) w (n .0) mode rs q g (choice .is) o (rw is-part at u))
+              (find-takes (I .layout .arena h ws) w (n .0) mode rs q g (choice .is) o)
               z (rw is-part at ez) y (I .here s) is-part (choice .here) vs (rw is-part at ev)
 
       -- nothing is removed
       pub find-kept : mode ≡ Mode.None → Finds I (I .find-made h 0 (I .here s) (I .here s)) ws (I .does (find w (n .0) mode) h ws)
       find-kept m =
           done-find I h ws aim s k (find w (n .0) mode) q q rs
-          (find-none (I .layout .arena h ws) w (n .0) mode rs q g (choice .is) m (fine I h ws aim s k .room))
+          (find-none (I .layout .arena h ws) w (n .0) mode rs q g (choice .is) m)
           h (sym (handle-back I h ws (k .good) (k .whole))) (I .here s) (I .here s) (choice .here) (choice .here) ws (sym (I .words-back h ws (k .good) (k .whole)))

@@ -96,11 +96,27 @@ abbrev pub room-for : Option ℕ → ℕ → Bool
 room-for none n = true
 room-for (some capacity) n = leb n capacity
 
-module _ {S : Type 0} (o : Ops S) (a : Arena) where
-  abbrev pub refuse : ℕ → S → Step S
-  refuse n s = record { out = refused n; next = s }
+abbrev pub refuse : {S : Type 0} → ℕ → S → Step S
+refuse n s = record { out = refused n; next = s }
 
-  -- Accepted, unless there is no room for the ranges of the next set.
+module _ {S : Type 0} (o : Ops S) where
+  abbrev pub taken : Mode → S → Range → S
+  taken Mode.None s f = s
+  taken Mode.Low s f = o .cut s (f .base) (f .limit)
+  taken Mode.High s f = o .cut s (f .base) (f .limit)
+  taken Mode.Entire s f = o .cut s (f .base) (f .limit)
+
+  -- A find that has chosen a range is accepted.
+  abbrev pub grant : Which → Mode → ℕ → S → Option Range → Step S
+  grant w mode n s none = refuse 2 s
+  grant w mode n s (some r) = record { out = accepted (part w mode n r) r; next = taken mode s (part w mode n r) }
+
+abbrev pub visit : {S : Type 0} → S → Option Range → Step S
+visit s none = refuse 2 s
+visit s (some r) = record { out = accepted r (rng 0 0); next = s }
+
+module _ {S : Type 0} (o : Ops S) (a : Arena) where
+  -- An insert or a delete is accepted, unless there is no room for the ranges of the next set.
   abbrev pub settle : S → S → Range → Range → Step S
   settle s s' f r =
       cond (room-for (a .room) (length (o .ranges s'))) (record { out = accepted f r; next = s' }) (refuse 3 s)
@@ -120,23 +136,9 @@ module _ {S : Type 0} (o : Ops S) (a : Arena) where
       (refuse 1 s))
       (refuse (range-number a b l) s)
 
-  abbrev pub taken : Mode → S → Range → S
-  taken Mode.None s f = s
-  taken Mode.Low s f = o .cut s (f .base) (f .limit)
-  taken Mode.High s f = o .cut s (f .base) (f .limit)
-  taken Mode.Entire s f = o .cut s (f .base) (f .limit)
-
-  abbrev pub grant : Which → Mode → ℕ → S → Option Range → Step S
-  grant w mode n s none = refuse 2 s
-  grant w mode n s (some r) = settle s (taken mode s (part w mode n r)) (part w mode n r) r
-
   abbrev pub do-find : Which → ℕ → Mode → S → Step S
   do-find w n mode s =
-      cond (good-size a w n) (grant w mode (find-size a n) s (choose w (find-size a n) (o .ranges s))) (refuse (size-number a w n) s)
-
-  abbrev pub visit : S → Option Range → Step S
-  visit s none = refuse 2 s
-  visit s (some r) = record { out = accepted r (rng 0 0); next = s }
+      cond (good-size a w n) (grant o w mode (find-size a n) s (choose w (find-size a n) (o .ranges s))) (refuse (size-number a w n) s)
 
   abbrev pub step : Call → S → Step S
   step (insert b l) s = do-insert s b l

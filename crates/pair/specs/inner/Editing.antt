@@ -1,9 +1,8 @@
 -- Contracts of the edits of one land of a pair. Assumes nothing.
-use Prim.Native.Nat.{ℕ, _≤_}
+use Prim.Native.Nat.{ℕ}
 use mathlib.Core.Bool.{true}
 use mathlib.Core.List.{List}
 use mathlib.Core.Path.{_≡_}
-use lib.ListN.{length}
 use Rattle.units.specs.declared.Range as units
 use Rattle.model.specs.Marks.{Range}
 use Rattle.model.specs.inner.Lists.{holds, insert-in, delete-from}
@@ -14,8 +13,7 @@ use Rattle.list_land.specs.Layout as list
 use Rattle.list_land.specs.inner.Parts.{arenaIn, chainIn}
 use Rattle.list_land.specs.Layout.{closedWith}
 use Rattle.list_land.specs.declared.ListLand.{ListLand}
-use Rattle.block_words.specs.Words.{capacity}
-use Rattle.block_edits.specs.inner.Places.{Holding}
+use Rattle.block_edits.specs.inner.Places.{Holding, AtEnd}
 use Rattle.block_land.specs.Layout as block
 use Rattle.block_land.specs.inner.Parts.{Readable}
 use Rattle.block_land.specs.declared.BlockLand.{BlockLand}
@@ -38,9 +36,9 @@ chained h c = closedWith h (c .head) (c .ranges) (c .bytes)
 abbrev pub TakingListed : ListLand → List ℕ → units.Range → Spot → Type 0
 TakingListed h ws y s = chains.Holding (arenaIn h) ws (chainIn h) s y
 
--- Pair i of a sound table holds a part, and there is room for what is left without it.
+-- Pair i of a sound table holds a part that reaches an end of it.
 pub record TakingTabled (k : BlockLand) (vs : List ℕ) (i : ℕ) (y : units.Range) : Type 0 where
   pub readable : Readable k vs
   pub at-pair : Holding vs (k .ranges) i y
   pub held : holds (y .base .0) (y .limit .0) (block.tableOf k vs) ≡ true
-  pub fits : length (tableLess k vs y) ≤ capacity vs
+  pub at-end : AtEnd vs i y

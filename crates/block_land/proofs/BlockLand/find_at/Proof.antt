@@ -2,7 +2,7 @@
 use borrow.Author.Needs.{needs}
 use Rattle.model.proofs.lands.FindAnswers.{find-2, find-kept}
 use Rattle.block_land.proofs.Land.{block-land}
-use Rattle.block_land.proofs.FindAnswers.{find-within, find-holding, find-fits, find-order, find-room, find-0}
+use Rattle.block_land.proofs.FindAnswers.{find-within, find-holding, find-end, find-order, find-room, find-0}
 use Rattle.block_land.proofs.BlockLand.find_at.Statement.{statement}
 use Rattle.block_land.proofs.BlockLand.find_at.Tie as tie
 
@@ -56,7 +56,7 @@ cut-at-requires c κs =
     let held = find-holding _ _ (start .args .which) (start .args .size) (start .args .mode) _ (start .pre .0) (start .pre .1) _ (zero .is-zero .ensures)
     (left .if1 .left) _ (size .before .arena .ensures) _ (size .find-size .ensures) (some .match .keys2) _ (some .before .part .ensures) in (
       held,
-      find-fits _ _ (start .args .which) (start .args .size) (start .args .mode) _ (start .pre .0) (start .pre .1) _ (zero .is-zero .ensures)
+      find-end _ _ (start .args .which) (start .args .size) (start .args .mode) _ (start .pre .0) (start .pre .1) _ (zero .is-zero .ensures)
           (left .if1 .left) _ (size .before .arena .ensures) _ (size .find-size .ensures) (some .match .keys2) _ (some .before .part .ensures),
     )
 
