@@ -7,7 +7,7 @@ pair, and what each must give.
 
 Run from the top of the repository.
 
-The models follow the text of document 01, of request K4 for the pair, and of request K10 for low water, and share no code
+The models follow the text of document 01, of request K4 for the pair, of K10 for low water and of K11 for finds, and share no code
 with the Rattle code. Those of the block land and the flush were written from document 01 alone, before the code of these two.
 Those of the list land and of the pair were not written blind: their authors had read `units` and `list_land`, and the crates
 of the pair, before. What both lands share (set_model.py) was written from document 01 and the list's model. Low water was

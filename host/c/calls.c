@@ -1,5 +1,5 @@
 /* Every function of the header by itself: on memory, so that each field of its result is compared by its name with a number
- * of its own, and on NULL with 0 words. Then low water, and the marks that are answered 6. */
+ * of its own, and on NULL with 0 words. Then low water, the marks that are answered 6, and a full table. */
 #include <inttypes.h>
 #include <stdio.h>
 #include <string.h>
@@ -475,6 +475,23 @@ static void handles_of_refused_marks(void) {
            4096, 4608, 8, 0, 0, 0, 2, 8, 4096, 4608, 8, 0, 0, 3, 16, 6, 0, 0);
 }
 
+/* A table with no room for another range: every find is accepted in every mode, an insert apart and a delete inside are not. */
+static void full_table(void) {
+    const lg_block_land full = {4096, 4608, 8, 1, 64, 1, 64};
+    const lg_range inside = {4112, 4128}, away = {4200, 4208};
+    for (uint64_t mode = LG_MODE_NONE; mode <= LG_MODE_ENTIRE; mode++) {
+        uint64_t first[2] = {4096, 4160}, last[2] = {4096, 4160}, largest[2] = {4096, 4160};
+        expect("find first at a full table", lg_block_find_first(full, first, 2, 16, mode).answer, LG_ANSWER_OK);
+        expect("find last", lg_block_find_last(full, last, 2, 16, mode).answer, LG_ANSWER_OK);
+        expect("find largest", lg_block_find_largest(full, largest, 2, 16, mode).answer, LG_ANSWER_OK);
+        expect("what low leaves begins at", first[0], mode == LG_MODE_LOW ? 4112 : mode == LG_MODE_ENTIRE ? 0 : 4096);
+        expect("what high leaves ends at", last[1], mode == LG_MODE_HIGH ? 4144 : mode == LG_MODE_ENTIRE ? 0 : 4160);
+    }
+    uint64_t nodes[2] = {4096, 4160};
+    expect("delete inside", lg_block_delete(full, nodes, 2, inside).answer, LG_ANSWER_FULL);
+    expect("insert apart", lg_block_insert(full, nodes, 2, away).answer, LG_ANSWER_FULL);
+}
+
 /* What is only read may lie in memory that cannot be written: a constant. */
 static void on_constants(void) {
     static const uint64_t words[WORDS] = {0, 4112}, nodes[2] = {4096, 4112};
@@ -528,10 +545,11 @@ int main(void) {
     low_water_of_each_land();
     low_water_of_a_flush();
     marks();
+    full_table();
     handles_of_refused_marks();
     on_constants();
     limits();
     texts();
-    puts(failed ? "calls: failed" : "calls: every function, by its fields and on no words; low water and marks");
+    puts(failed ? "calls: failed" : "calls: every function, by its fields and on no words; low water, marks, a full table");
     return failed;
 }

@@ -114,12 +114,12 @@ impl BlockLand {
         Arena { base, limit, align }
     }
 
-    // The arena of a handle with a good set-up, its alignment one of ten constants.
+    // The arena of a handle with a good set-up, for one test.
     pub(crate) fn good_arena(self) -> Arena
         requires { ⌜ goodAlign (self .align .0) ≡ true ⌝ }
         ensures { λ r. ⌜ r ≡ arenaIn self ⌝ }
     {
-        self.arena().divided()
+        self.arena().by_bit()
     }
 
     // Whether the fixed fields keep the arena rules and node space is not too long.

@@ -77,7 +77,7 @@ impl Sweep {
         if arena.limit.lt(Addr::new(self.past)) {
             return Soundness::Damaged;
         }
-        let align = arena.align.divisor();
+        let align = arena.align.bit();
         if !align.divides(self.bits) {
             return Soundness::Damaged;
         }

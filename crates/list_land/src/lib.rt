@@ -106,8 +106,16 @@ impl ListLand {
         Arena { base, limit, align }
     }
 
-    // The arena of a handle with a good set-up, its alignment one of ten constants.
+    // The arena of a handle with a good set-up, for one test.
     pub(crate) fn good_arena(self) -> Arena
+        requires { ⌜ goodAlign (self .align .0) ≡ true ⌝ }
+        ensures { λ r. ⌜ r ≡ arenaIn self ⌝ }
+    {
+        self.arena().by_bit()
+    }
+
+    // The same for the walk.
+    fn walk_arena(self) -> Arena
         requires { ⌜ goodAlign (self .align .0) ≡ true ⌝ }
         ensures { λ r. ⌜ r ≡ arenaIn self ⌝ }
     {
@@ -152,7 +160,7 @@ impl ListLand {
         let Soundness::Sound = water.check(self.bytes) else {
             return Look::Damaged;
         };
-        let arena = self.good_arena();
+        let arena = self.walk_arena();
         match list_words::survey(arena, words, self.chain(), arena.aim_of(aim)) {
             Verdict::Damaged => Look::Damaged,
             Verdict::Sound(spot) => Look::Sound(spot),

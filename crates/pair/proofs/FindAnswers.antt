@@ -6,7 +6,7 @@ use mathlib.Core.Path.{_≡_, refl, sym, ap, ap₂, subst, _∙_}
 use types.Run.{OneOf}
 use denote.Enum.Declared.{tagOf}
 use Rattle.units.specs.inner.Aims as units-aims
-use Rattle.units.specs.Rules.{findCheck, findSize}
+use Rattle.units.specs.Rules.{goodAlign, findCheck, findSize}
 use Rattle.units.specs.declared.Mode.{Mode}
 use Rattle.units.specs.declared.Range as units
 use Rattle.units.specs.declared.Size.{Size}
@@ -170,6 +170,9 @@ Asked p ws vs w n s e = Checked p ws vs (findAim p w n) s e × (good-size (block
 
 module _ (p : Pair) (ws vs : List ℕ) (w : Which) (n : Size) (s : Spot) (e : Entry) (k : Checked p ws vs (aimIn p (Aim.Find w n)) s e)
     (x : units-arena.Arena) (ex : x ≡ block-parts.arenaIn (p .block)) where
+  pub find-align : goodAlign (x .align .0) ≡ true
+  find-align = rw ex (block-sound.placed (p .block) vs (block-up p ws vs (k .good)) .arena .align)
+
   pub find-positive : 0 < x .align .0
   find-positive = rw ex (block-sound.placed (p .block) vs (block-up p ws vs (k .good)) .positive)
 

@@ -155,7 +155,7 @@ impl Pair {
         ensures { λ r. ⌜ (r ≡ foundOf (found self (now (words .entry)) (now (nodes .entry)) which (size .0) mode)) × (now (words .exit) ≡ found self (now (words .entry)) (now (nodes .entry)) which (size .0) mode .words .list) × (now (nodes .exit) ≡ found self (now (words .entry)) (now (nodes .entry)) which (size .0) mode .words .block) ⌝ }
     {
         let block = self.block;
-        let SizeCheck::Good = block.arena().check_find(which, size) else {
+        let SizeCheck::Good = block.arena().by_bit().check_find(which, size) else {
             return none_found(self, 4);
         };
         match choose_side(which, spot.here, entry.here) {

@@ -202,7 +202,7 @@ impl Pair {
         requires { ⌜ Checked self (now words) (now nodes) (reachBase range) spot entry ⌝ }
         ensures { λ r. ⌜ (r ≡ changed (inserted self (now (words .entry)) (now (nodes .entry)) range)) × (now (words .exit) ≡ inserted self (now (words .entry)) (now (nodes .entry)) range .words .list) × (now (nodes .exit) ≡ inserted self (now (words .entry)) (now (nodes .entry)) range .words .block) ⌝ }
     {
-        let RangeCheck::Good = self.block.arena().divided().check_range(range) else {
+        let RangeCheck::Good = self.block.arena().by_bit().check_range(range) else {
             return refused(self, 4);
         };
         if self.taken(words, nodes, range, spot, entry) {

@@ -78,11 +78,15 @@ fn words() {
     });
 }
 
+/// Has the table as many ranges as its capacity?
+fn is_full(it: &BlockCall) -> bool {
+    it.before.as_ref().map_or(0, Vec::len) == it.nodes.len() / 2
+}
+
 #[test]
 fn merging() {
     block_noticed("a full table refuses a range that merges", |it: BlockCall| {
-        let full = it.before.map_or(0, |ranges| ranges.len()) == it.nodes.len() / 2;
-        if full && it.done.answer == 0 && matches!(it.call, Call::Insert(_)) {
+        if is_full(&it) && it.done.answer == 0 && matches!(it.call, Call::Insert(_)) {
             it.done.answer = 3;
         }
     });
@@ -90,6 +94,19 @@ fn merging() {
         Call::Insert(range) if it.done.answer == 0 && it.done.range.base < range.base => {
             it.done.range.limit = range.limit;
         }
+        _ => {}
+    });
+}
+
+#[test]
+fn node_space() {
+    block_noticed("a find at a full table is answered 3", |it: BlockCall| {
+        if is_full(&it) && it.done.answer == 0 && matches!(it.call, Call::Find(..)) {
+            it.done.answer = 3;
+        }
+    });
+    block_noticed("a delete that splits at a full table is answered 0", |it: BlockCall| match it.call {
+        Call::Delete(_) if it.done.answer == 3 => it.done.answer = 0,
         _ => {}
     });
 }

@@ -30,8 +30,8 @@ enum-told-4 c = search needs
 returns-2 : tie.Need-returns-2
 returns-2 c = search (look-low list-land)
 
-good-arena-requires : tie.Need-good-arena-requires
-good-arena-requires c κs = search (good-align list-land)
+walk-arena-requires : tie.Need-walk-arena-requires
+walk-arena-requires c κs = search (good-align list-land)
 
 chain-requires : tie.Need-chain-requires
 chain-requires c κs = search needs
@@ -59,7 +59,7 @@ returns-4 c =
     let low = arena .before in
     let checked = low .before .before in
     let good = checked .before .before in
-    look-sound _ _ _ _ (good .before .before .set-up .ensures) (good .enum-told .given .1) _ (arena .good-arena .ensures) _ (checked .check .ensures)
+    look-sound _ _ _ _ (good .before .before .set-up .ensures) (good .enum-told .given .1) _ (arena .walk-arena .ensures) _ (checked .check .ensures)
     (low .enum-told3 .given .1) _ (survey .before .aim-of .ensures) _ (chain .chain .ensures) _ (survey .survey .ensures) _ (c .before .spot .given .1)
 
 pub look-spec : {M : Type 1} → statement M
@@ -74,7 +74,7 @@ look-spec =
     enum-told-3
     enum-told-4
     returns-2
-    good-arena-requires
+    walk-arena-requires
     chain-requires
     aim-of-requires
     survey-requires

@@ -1,25 +1,33 @@
 -- `Pair::find_at` meets its contract: 4, 2, the find in the list, the find in the block land. Assumes nothing.
-use Rattle.pair.proofs.FindAnswers.{Asked, find-positive, find-4, find-ready, find-ordered, find-2, list-chosen, find-list, block-chosen, find-block}
+use Rattle.pair.proofs.FindAnswers.{Asked, find-align, find-positive, find-4, find-ready, find-ordered, find-2, list-chosen, find-list, block-chosen, find-block}
+use mathlib.Core.Path.{_∙_}
 use denote.Ref.{now}
 use borrow.Author.Needs.{needs}
 use Rattle.pair.proofs.Pair.find_at.Statement.{statement}
 use Rattle.pair.proofs.Pair.find_at.Tie as tie
 
 -- the size is good
-asked : (k : tie.After-enum-told) → let a = k .before .before .before .before .before .before .before .args in Asked (a .self) (now (a .words)) (now (a .nodes)) (a .which) (a .size) (a .spot) (a .entry)
+asked : (k : tie.After-enum-told) → let a = k .before .before .before .before .before .before .before .before .args in Asked (a .self) (now (a .words)) (now (a .nodes)) (a .which) (a .size) (a .spot) (a .entry)
 asked k =
     let check = k .before .before in
-    let arena = check .before in
+    let bit = check .before in
+    let arena = bit .before in
     let start = arena .before .before .before .before in
-    find-ready (start .args .self) _ _ (start .args .which) (start .args .size) _ _ (start .pre) _ (arena .arena .ensures) _ (check .check-find .ensures) (k .enum-told .given .1)
+    find-ready (start .args .self) _ _ (start .args .which) (start .args .size) _ _ (start .pre) _ (bit .by-bit .ensures ∙ arena .arena .ensures) _ (check .check-find .ensures) (k .enum-told .given .1)
 
 arena-requires : tie.Need-arena-requires
 arena-requires c κs = search needs
 
+by-bit-requires : tie.Need-by-bit-requires
+by-bit-requires c κs =
+    let start = c .before .before .before .before in
+    find-align (start .args .self) _ _ (start .args .which) (start .args .size) _ _ (start .pre) _ (c .arena .ensures)
+
 check-find-requires : tie.Need-check-find-requires
 check-find-requires c κs =
-    let start = c .before .before .before .before in
-    find-positive (start .args .self) _ _ (start .args .which) (start .args .size) _ _ (start .pre) _ (c .arena .ensures)
+    let arena = c .before in
+    let start = arena .before .before .before .before in
+    find-positive (start .args .self) _ _ (start .args .which) (start .args .size) _ _ (start .pre) _ (c .by-bit .ensures ∙ arena .arena .ensures)
 
 enum-told : tie.Need-enum-told
 enum-told c = search needs
@@ -30,15 +38,16 @@ none-found-requires c κs = search needs
 returns : tie.Need-returns
 returns c =
     let check = c .before .before in
-    let arena = check .before in
+    let bit = check .before in
+    let arena = bit .before in
     let start = arena .before .before .before .before in
-    find-4 (start .args .self) _ _ (start .args .which) (start .args .size) _ _ (start .pre) _ (arena .arena .ensures) _ (check .check-find .ensures) (c .before .match .keys2)
+    find-4 (start .args .self) _ _ (start .args .which) (start .args .size) _ _ (start .pre) _ (bit .by-bit .ensures ∙ arena .arena .ensures) _ (check .check-find .ensures) (c .before .match .keys2)
     (start .args .mode) _ (c .none-found .ensures)
 
 choose-side-requires : tie.Need-choose-side-requires
 choose-side-requires c κs =
     let told = c in
-    let a = told .before .before .before .before .before .before .before .args in
+    let a = told .before .before .before .before .before .before .before .before .args in
     find-ordered (a .self) _ _ (a .which) (a .size) (a .mode) _ _ (asked told .0)
 
 enum-told-2 : tie.Need-enum-told-2
@@ -54,7 +63,7 @@ find-in-list-requires : tie.Need-find-in-list-requires
 find-in-list-requires c κs =
     let side = c .before .before .before in
     let told = side .before in
-    let a = told .before .before .before .before .before .before .before .args in
+    let a = told .before .before .before .before .before .before .before .before .args in
     list-chosen (a .self) _ _ (a .which) (a .size) (a .mode) _ _ (asked told .0) (asked told .1) _ (side .choose-side .ensures) (c .before .enum-told3 .given .1)
 
 enum-told-4 : tie.Need-enum-told-4
@@ -64,14 +73,14 @@ find-in-block-requires : tie.Need-find-in-block-requires
 find-in-block-requires c κs =
     let side = c .before .before .before in
     let told = side .before in
-    let a = told .before .before .before .before .before .before .before .args in
+    let a = told .before .before .before .before .before .before .before .before .args in
     block-chosen (a .self) _ _ (a .which) (a .size) (a .mode) _ _ (asked told .0) (asked told .1) _ (side .choose-side .ensures) (c .before .enum-told4 .given .1)
 
 returns-2 : tie.Need-returns-2
 returns-2 c =
     let side = c .before .before .before in
     let told = side .before in
-    let a = told .before .before .before .before .before .before .before .args in
+    let a = told .before .before .before .before .before .before .before .before .args in
     find-2 (a .self) _ _ (a .which) (a .size) (a .mode) _ _ (asked told .0) (asked told .1) _ (side .choose-side .ensures) (c .before .enum-told2 .given .1) _ (c .none-found2 .ensures)
 
 same-length : tie.Need-same-length
@@ -83,7 +92,7 @@ returns-3 c =
     let in-list = found .before .before in
     let side = in-list .before .before in
     let told = side .before in
-    let a = told .before .before .before .before .before .before .before .args in
+    let a = told .before .before .before .before .before .before .before .before .args in
     find-list (a .self) _ _ (a .which) (a .size) (a .mode) _ _ (asked told .0) (asked told .1) _ (side .choose-side .ensures) (in-list .enum-told3 .given .1) _ _ (found .find-in-list .ensures)
 
 same-length-2 : tie.Need-same-length-2
@@ -95,7 +104,7 @@ returns-4 c =
     let in-block = found .before .before in
     let side = in-block .before .before in
     let told = side .before in
-    let a = told .before .before .before .before .before .before .before .args in
+    let a = told .before .before .before .before .before .before .before .before .args in
     find-block (a .self) _ _ (a .which) (a .size) (a .mode) _ _ (asked told .0) (asked told .1) _ (side .choose-side .ensures) (in-block .enum-told4 .given .1) _ _ (found .find-in-block .ensures)
 
 pub find-at-spec : {M : Type 1} → statement M
@@ -103,6 +112,7 @@ find-at-spec =
     tie.close
     (tie.spec
     arena-requires
+    by-bit-requires
     check-find-requires
     enum-told
     none-found-requires

@@ -9,13 +9,13 @@ use Rattle.pair.proofs.Pair.insert_at.Tie as tie
 arena-requires : tie.Need-arena-requires
 arena-requires c κs = search needs
 
-divided-requires : tie.Need-divided-requires
-divided-requires c κs =
+by-bit-requires : tie.Need-by-bit-requires
+by-bit-requires c κs =
     asked-align _ _ _ (c .before .before .before .args .range) _ _ (c .before .before .before .pre) _ (c .arena .ensures)
 
 check-range-requires : tie.Need-check-range-requires
 check-range-requires c κs =
-    asked-positive _ _ _ (c .before .before .before .before .args .range) _ _ (c .before .before .before .before .pre) _ (c .before .arena .ensures) _ (c .divided .ensures)
+    asked-positive _ _ _ (c .before .before .before .before .args .range) _ _ (c .before .before .before .before .pre) _ (c .before .arena .ensures) _ (c .by-bit .ensures)
 
 enum-told : tie.Need-enum-told
 enum-told c = search needs
@@ -26,20 +26,20 @@ refused-requires c κs = search needs
 returns : tie.Need-returns
 returns c =
     let checked = c .before .before in
-    let divided = checked .before in
-    let arena = divided .before in
+    let bit = checked .before in
+    let arena = bit .before in
     let start = arena .before .before .before in
-    asked-4 _ _ _ (start .args .range) _ _ (start .pre) _ (arena .arena .ensures) _ (divided .divided .ensures) _ (checked .check-range .ensures)
+    asked-4 _ _ _ (start .args .range) _ _ (start .pre) _ (arena .arena .ensures) _ (bit .by-bit .ensures) _ (checked .check-range .ensures)
     changed _ _ (is-insert _ _ _ (start .args .range)) (λ g. rw g) (c .before .match .keys2) _ (c .refused .ensures)
 
 taken-requires : tie.Need-taken-requires
 taken-requires c κs =
     let told = c .before .before in
     let checked = told .before .before in
-    let divided = checked .before in
-    let arena = divided .before in
+    let bit = checked .before in
+    let arena = bit .before in
     let start = arena .before .before .before in
-    asked-good _ _ _ (start .args .range) _ _ (start .pre) _ (arena .arena .ensures) _ (divided .divided .ensures) _ (checked .check-range .ensures) (told .enum-told .given .1)
+    asked-good _ _ _ (start .args .range) _ _ (start .pre) _ (arena .arena .ensures) _ (bit .by-bit .ensures) _ (checked .check-range .ensures) (told .enum-told .given .1)
 
 refused-requires-2 : tie.Need-refused-requires-2
 refused-requires-2 c κs = search needs
@@ -55,10 +55,10 @@ returns-2 c =
     let taken = c .before .before in
     let told = taken .before .before .before in
     let checked = told .before .before in
-    let divided = checked .before in
-    let arena = divided .before in
+    let bit = checked .before in
+    let arena = bit .before in
     let start = arena .before .before .before in
-    let wanted = asked-good _ _ _ (start .args .range) _ _ (start .pre) _ (arena .arena .ensures) _ (divided .divided .ensures) _ (checked .check-range .ensures) (told .enum-told .given .1) in
+    let wanted = asked-good _ _ _ (start .args .range) _ _ (start .pre) _ (arena .arena .ensures) _ (bit .by-bit .ensures) _ (checked .check-range .ensures) (told .enum-told .given .1) in
     taken-1 _ _ _ (start .args .range) _ _ wanted _ (taken .taken .ensures) (c .before .if1 .taken) _ (c .refused2 .ensures)
 
 insert-bare-requires : tie.Need-insert-bare-requires
@@ -66,10 +66,10 @@ insert-bare-requires c κs =
     let taken = c .before .before .before in
     let told = taken .before .before .before in
     let checked = told .before .before in
-    let divided = checked .before in
-    let arena = divided .before in
+    let bit = checked .before in
+    let arena = bit .before in
     let start = arena .before .before .before in
-    let wanted = asked-good _ _ _ (start .args .range) _ _ (start .pre) _ (arena .arena .ensures) _ (divided .divided .ensures) _ (checked .check-range .ensures) (told .enum-told .given .1) in
+    let wanted = asked-good _ _ _ (start .args .range) _ _ (start .pre) _ (arena .arena .ensures) _ (bit .by-bit .ensures) _ (checked .check-range .ensures) (told .enum-told .given .1) in
     not-taken _ _ _ (start .args .range) _ _ wanted _ (taken .taken .ensures) (c .before .before .if1 .left)
 
 same-length-3 : tie.Need-same-length-3
@@ -86,7 +86,7 @@ insert-at-spec =
     tie.close
     (tie.spec
     arena-requires
-    divided-requires
+    by-bit-requires
     check-range-requires
     enum-told
     refused-requires

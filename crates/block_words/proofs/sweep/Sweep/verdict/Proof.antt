@@ -19,8 +19,8 @@ lt-requires c κs = search needs
 returns-3 : tie.Need-returns-3
 returns-3 c = search verdicts
 
-divisor-requires : tie.Need-divisor-requires
-divisor-requires c κs = search verdicts
+bit-requires : tie.Need-bit-requires
+bit-requires c κs = search verdicts
 
 divides-requires : tie.Need-divides-requires
 divides-requires c κs = search verdicts
@@ -49,7 +49,7 @@ verdict-spec =
     new-requires
     lt-requires
     returns-3
-    divisor-requires
+    bit-requires
     divides-requires
     returns-4
     new-requires-2
