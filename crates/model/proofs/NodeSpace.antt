@@ -1,12 +1,12 @@
 -- A find and node space: no find leaves more ranges than it met, and document 01's ledger, with its 3 on finds, gives the same. Assumes nothing.
 use mathlib.Core.Path.{_≡_, refl, sym, ap, _∙_}
-use mathlib.Core.Bool.{false}
+use mathlib.Core.Bool.{false, not}
 use mathlib.Core.List.{List, [], _∷_}
 use mathlib.Core.Option.{Option, none, some}
 use Prim.Native.Nat.{ℕ, _-_, _≤_}
 use native.Mathlib.Omega.{arith}
 use lib.ListN.{length}
-use borrow.Author.Tests.{le-ltb, ltb-false}
+use borrow.Author.Tests.{not-false}
 use Rattle.units.specs.declared.Mode.{Mode}
 use Rattle.units.specs.declared.Which.{Which}
 use Rattle.model.specs.Marks.{Range, Marks, Inside, marksOf}
@@ -18,11 +18,11 @@ use Rattle.model.specs.Lands.{Shown, land-answers, list-rules, reference
 use Rattle.model.specs.NodeSpace.{FindsNoMore, LandFindsNoMore, serves-01, reference-01, rules-01, SameAs01, HistoriesAs01}
 use Rattle.model.specs.inner.Laws.{Canon, Fine, LandLaws, Alike}
 use Rattle.model.specs.inner.Lists.{Aligned}
-use Rattle.model.specs.inner.Steps.{marks-ops, list-ops, choose, part, taken, step}
+use Rattle.model.specs.inner.Steps.{marks-ops, list-ops, choose, part, room-for, taken, step}
 use Rattle.units.proofs.Tests.{by}
 use Rattle.model.proofs.Calling.{fine-inside}
 use Rattle.model.proofs.Choosing.{choose-mem}
-use Rattle.model.proofs.Counting.{taken-length, finds-no-more}
+use Rattle.model.proofs.Counting.{room-for-fewer, taken-length, finds-no-more}
 use Rattle.model.proofs.DemandMet.{land-alike}
 use Rattle.model.proofs.Isolating.{runs-sorted, runs-marks}
 use Rattle.model.proofs.ListsAreMarks.{ranges-same, taken-same}
@@ -39,8 +39,7 @@ by-ones [] = tt
 by-ones (r ∷ rs) = (omega arith, omega arith, by-ones rs)
 
 not-too-many : (o : Option ℕ) (n k : ℕ) → too-many o n ≡ false → k ≤ n → too-many o k ≡ false
-not-too-many none n k e p = refl
-not-too-many (some c) n k e p = le-ltb c k (omega (arith, ltb-false c n e))
+not-too-many o n k e p = room-same o k ∙ ap not (room-for-fewer o n k (not-false (room-for o n) (sym (room-same o n) ∙ e)) p)
 
 -- OVER MARKS
 module _ (a : Arena) (m : Marks) (order : a .base ≤ a .limit) (i : Inside (a .base) (a .limit) m) where

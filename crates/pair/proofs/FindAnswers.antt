@@ -15,6 +15,7 @@ use Rattle.units.specs.declared.aims.Aim.{Aim}
 use Rattle.units.specs.declared.rules.Arena as units-arena
 use Rattle.units.specs.declared.rules.SizeCheck.{SizeCheck}
 use Rattle.units.proofs.rules.SizeCheck as size-type
+use Rattle.units.proofs.Alignments.{align-positive}
 use Rattle.model.specs.Calls as land
 use Rattle.model.specs.Calls.{Arena, Step, good-size, size-number, find-size, unbounded}
 use Rattle.model.specs.Marks.{Range}
@@ -174,7 +175,7 @@ module _ (p : Pair) (ws vs : List ℕ) (w : Which) (n : Size) (s : Spot) (e : En
   find-align = rw ex (block-sound.placed (p .block) vs (block-up p ws vs (k .good)) .arena .align)
 
   pub find-positive : 0 < x .align .0
-  find-positive = rw ex (block-sound.placed (p .block) vs (block-up p ws vs (k .good)) .positive)
+  find-positive = align-positive (x .align .0) find-align
 
   -- the arena of the block land is that of the list
   one-arena : list-parts.arenaIn (p .list) ≡ block-parts.arenaIn (p .block)
