@@ -7,8 +7,6 @@ use mathlib.Core.Path.{◌≡◌, sym, subst, ◌∙◌}
 use native.Mathlib.Omega.{arith}
 use lib.Dec.{eqb}
 use lib.ListN.{length}
-use types.Run.{OneOf}
-use denote.Enum.Declared.{tag_of}
 use Rattle.units.specs.inner.Aims.{is_none}
 use Rattle.units.specs.Rules.{find_size}
 use Rattle.units.specs.declared.Mode.{Mode}
@@ -16,7 +14,6 @@ use Rattle.units.specs.declared.Range as units
 use Rattle.units.specs.declared.Size.{Size}
 use Rattle.units.specs.declared.Which.{Which}
 use Rattle.units.specs.declared.rules.Arena.{Arena}
-use Rattle.units.specs.contracts.Mode as mode-type
 use Rattle.model.specs.Calls.{good_size_in}
 use Rattle.model.specs.inner.Lists.{delete_from, plain}
 use Rattle.model.specs.Marks.{struct, total}
@@ -47,7 +44,7 @@ module _ (h : BlockLand) (ws : List ℕ) (w : Which) (n : Size) (mode : Mode) (d
   pub find-within : Within m d.here
   find-within = record { long = find-long block_land h ws w n mode d k g t et f a ea m em }
 
-  module _ (o : OneOf (1 ∷ 2 ∷ 3 ∷ []) (tag_of mode-type.the_type mode)) (y : units.Range) (ey : y ≡ struct (part w mode m.0 (plain d.here))) where
+  module _ (o : (mode ≡ Mode.None → ⊥)) (y : units.Range) (ey : y ≡ struct (part w mode m.0 (plain d.here))) where
     read : Readable h ws
     read = readable h ws (find_aim h w n) d k
 

@@ -2,6 +2,8 @@
 //
 // Every call takes every handle, every lent memory and every number. A refused call returns empty ranges and the handle
 // that it was given, and changes no word. Every function here is proved, and the crate assumes nothing of its own.
+#![tactic(auto)]
+
 mod delete;
 mod find;
 mod insert;
@@ -19,7 +21,7 @@ use units::{Addr, Aim, Align, Arena, ArenaCheck, LowWater, Range, SetUp, Size, S
 
 // The handle of a block land: its arena, the number of ranges and of free bytes, the mark and low water.
 #[repr(C)]
-#[derive(Drop)]
+#[derive(Clone, Copy)]
 pub struct BlockLand {
     pub base: Addr,
     pub limit: Addr,
@@ -31,7 +33,7 @@ pub struct BlockLand {
 
 // What an opening returns.
 #[repr(C)]
-#[derive(Drop)]
+#[derive(Clone, Copy)]
 pub struct Opened {
     pub land: BlockLand,
     pub answer: u64,
@@ -39,7 +41,7 @@ pub struct Opened {
 
 // What insert, delete and walk return: the next handle, the answer's number, and the range.
 #[repr(C)]
-#[derive(Drop)]
+#[derive(Clone, Copy)]
 pub struct Changed {
     pub land: BlockLand,
     pub answer: u64,
@@ -48,7 +50,7 @@ pub struct Changed {
 
 // What a find returns: the next handle, the answer's number, the range found, and the range that it was found in.
 #[repr(C)]
-#[derive(Drop)]
+#[derive(Clone, Copy)]
 pub struct Found {
     pub land: BlockLand,
     pub answer: u64,
@@ -57,7 +59,7 @@ pub struct Found {
 }
 
 // What a call finds before it looks at its request: a bad set-up, a table that is not sound, or the entry aimed at.
-#[derive(Drop)]
+#[derive(Clone, Copy)]
 pub enum Look {
     BadSetUp,
     Damaged,

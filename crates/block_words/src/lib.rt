@@ -2,6 +2,8 @@
 //
 // Every function here is proved, and the crate assumes nothing of its own. These are inner functions: a `requires`
 // says what the calls of the land have checked before.
+#![tactic(auto)]
+
 pub mod seeks;
 mod sweep;
 
@@ -14,14 +16,14 @@ ghost use Rattle.block_words.specs.inner.Surveys.{tidy, survey_of};
 use units::{Addr, Aim, Arena, Range, Size, Soundness};
 
 // A range of the table and its number. Where there is none: (0, 0), and the number of ranges.
-#[derive(Drop)]
+#[derive(Clone, Copy)]
 pub struct Entry {
     pub number: usize,
     pub here: Range,
 }
 
 // What is found of the whole table: damage, or the entry aimed at.
-#[derive(Drop)]
+#[derive(Clone, Copy)]
 pub enum Verdict {
     Damaged,
     Sound(Entry),

@@ -41,7 +41,7 @@ fn entry_at(words: &[u64], n: usize, i: usize) -> Entry
 }
 
 // The first range that reaches an address.
-pub fn reached(words: &[u64], n: usize, x: Addr) -> Entry
+fn reached(words: &[u64], n: usize, x: Addr) -> Entry
     requires { Rising words.now n }
     ensures { result ≡ entry_of (Aim.Reach x) (pairs words.now n) }
 {

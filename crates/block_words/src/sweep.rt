@@ -8,7 +8,7 @@ use units::{Addr, Arena, Size, Soundness};
 
 // Where a sweep stands: the number of pairs met, the limit of the last, a number whose top bit is set exactly if all words
 // ascend, all words OR-ed, and their bytes. The numbers are modulo 2^64.
-#[derive(Drop)]
+#[derive(Clone, Copy)]
 pub struct Sweep {
     pub next: usize,
     pub past: u64,

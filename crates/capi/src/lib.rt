@@ -2,6 +2,8 @@
 // version.
 //
 // Every function here is proved to equal the call that it makes, the version its definition. The crate assumes nothing of its own.
+#![tactic(auto)]
+
 pub mod block;
 pub mod list;
 pub mod modes;

@@ -5,7 +5,7 @@ ghost use Rattle.capi.specs.Modes.{given_mode, refusal_after};
 use units::Mode;
 
 // A mode, or a number that is none.
-#[derive(Drop)]
+#[derive(Clone, Copy)]
 pub enum Given {
     Mode(Mode),
     Unknown,

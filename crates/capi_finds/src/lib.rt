@@ -2,5 +2,7 @@
 // find first has the find's code to itself there.
 //
 // Every function here is proved to equal the call that it makes, and the crate assumes nothing of its own.
+#![tactic(auto)]
+
 pub mod block;
 pub mod list;

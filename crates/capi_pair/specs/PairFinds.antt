@@ -15,4 +15,4 @@ found_by p ws vs w n m = with_mode (found p ws vs w n) (unknown_mode (set_up p w
 abbrev pub mode_answer : PairCheck → ℕ
 mode_answer PairCheck.BadSetUp = 5
 mode_answer PairCheck.Damaged = 6
-mode_answer (PairCheck.Good s) = 4
+mode_answer (PairCheck.Good s e) = 4

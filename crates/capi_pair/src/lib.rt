@@ -1,6 +1,8 @@
-// The pair's calls for a host in C, but for the finds of the last and of the largest range.
+// The pair's calls for a host in C.
 //
 // Every function here is proved to equal the call that it makes, and the crate assumes nothing of its own.
+#![tactic(auto)]
+
 ghost use Rattle.std.specs.Prelude.{◌≡◌};
 ghost use Rattle.units.specs.declared.Which.{Which};
 ghost use Rattle.pair.specs.inner.Parts.{found_none};
@@ -44,12 +46,12 @@ fn mode_answer(check: PairCheck) -> u64
     match check {
         PairCheck::BadSetUp => 5,
         PairCheck::Damaged => 6,
-        PairCheck::Good(_) => 4,
+        PairCheck::Good(_, _) => 4,
     }
 }
 
 // The refusal of a find whose mode is not known.
-pub fn refuse(pair: Pair, words: &[u64], nodes: &[u64]) -> Found
+fn refuse(pair: Pair, words: &[u64], nodes: &[u64]) -> Found
     ensures { result ≡ found_none pair (unknown_mode (set_up pair words.now nodes.now) (sound pair words.now nodes.now)) }
 {
     Found {
@@ -72,6 +74,38 @@ pub extern "C" fn lg_pair_find_first(
 {
     match modes::mode_of(mode) {
         Given::Mode(mode) => pair.find_first(words, nodes, Size::new(size), mode),
+        Given::Unknown => refuse(pair, words, nodes),
+    }
+}
+
+#[unsafe(no_mangle)]
+pub extern "C" fn lg_pair_find_last(
+    pair: Pair,
+    words: &mut [u64],
+    nodes: &mut [u64],
+    size: u64,
+    mode: u64,
+) -> Found
+    ensures { (result ≡ found_of (found_by pair words.old nodes.old Which.Last size mode)) × (words.new ≡ (found_by pair words.old nodes.old Which.Last size mode).words.list) × (nodes.new ≡ (found_by pair words.old nodes.old Which.Last size mode).words.block) }
+{
+    match modes::mode_of(mode) {
+        Given::Mode(mode) => pair.find_last(words, nodes, Size::new(size), mode),
+        Given::Unknown => refuse(pair, words, nodes),
+    }
+}
+
+#[unsafe(no_mangle)]
+pub extern "C" fn lg_pair_find_largest(
+    pair: Pair,
+    words: &mut [u64],
+    nodes: &mut [u64],
+    size: u64,
+    mode: u64,
+) -> Found
+    ensures { (result ≡ found_of (found_by pair words.old nodes.old Which.Largest size mode)) × (words.new ≡ (found_by pair words.old nodes.old Which.Largest size mode).words.list) × (nodes.new ≡ (found_by pair words.old nodes.old Which.Largest size mode).words.block) }
+{
+    match modes::mode_of(mode) {
+        Given::Mode(mode) => pair.find_largest(words, nodes, Size::new(size), mode),
         Given::Unknown => refuse(pair, words, nodes),
     }
 }

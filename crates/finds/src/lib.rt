@@ -2,6 +2,8 @@
 //
 // Every function here is proved, and the crate assumes nothing of its own. These are inner functions: a `requires`
 // says what the calls of a land have checked before.
+#![tactic(auto)]
+
 ghost use Rattle.std.specs.Prelude.{◌≡◌};
 ghost use Rattle.model.specs.Marks.{struct};
 ghost use Rattle.model.specs.inner.Lists.{plain};

@@ -2,6 +2,8 @@
 //
 // It takes every handle, every lent memory and every number. A refused flush moves nothing and hands back both handles.
 // Every function here is proved, and the crate assumes nothing of its own.
+#![tactic(auto)]
+
 ghost use Rattle.std.specs.Prelude.{◌≡◌};
 ghost use Rattle.units.specs.inner.Parts.{set_up_of};
 ghost use Rattle.flush.specs.Flush.{same_arena, refusal, check_of, flushed};
@@ -14,7 +16,7 @@ use units::{Aim, SetUp};
 
 // What a flush returns: both next handles, the answer's number, the number of ranges moved, and the refusal that stopped it, or 0.
 #[repr(C)]
-#[derive(Drop)]
+#[derive(Clone, Copy)]
 pub struct Flushed {
     pub list: ListLand,
     pub block: BlockLand,
@@ -24,7 +26,7 @@ pub struct Flushed {
 }
 
 // Good, or the first that fails: the set-up of the list, of the block land, one arena for both, a sound list, a sound table.
-#[derive(Drop)]
+#[derive(Clone, Copy)]
 pub enum FlushCheck {
     Good,
     ListSetUp,

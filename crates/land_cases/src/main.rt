@@ -8,6 +8,8 @@
 // A flush is OP 20: 20, the list's handle, NWORDS w0 .., then 0, the block land's handle, NNODES n0 .. with both handles in
 // the form above. OP 31 to 35 are insert, delete and the finds on a pair: the same numbers, then A B C. A number that cannot
 // be read ends the program. It reads 262,144 bytes at most.
+#![tactic(auto)]
+
 use block_land::BlockLand;
 use flush::Flushed;
 use list_land::{Changed, Found, ListLand};
@@ -15,7 +17,7 @@ use pair::Pair;
 use units::{Addr, Align, LowWater, Mode, Range, Size};
 
 // A number with one digit more; or its end; or a digit by which it would pass 2^64 - 1.
-#[derive(Drop)]
+#[derive(Clone, Copy)]
 pub enum Grown {
     More(u64),
     End,
@@ -23,7 +25,7 @@ pub enum Grown {
 }
 
 // A number read, and the position after it.
-#[derive(Drop)]
+#[derive(Clone, Copy)]
 pub struct Number {
     pub good: bool,
     pub value: u64,
@@ -31,7 +33,7 @@ pub struct Number {
 }
 
 // The position after some numbers, if all of them were read.
-#[derive(Drop)]
+#[derive(Clone, Copy)]
 pub struct Place {
     pub good: bool,
     pub at: usize,

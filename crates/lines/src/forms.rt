@@ -33,14 +33,14 @@ const HIGH: u64 = 0x68696768;
 const ENTIRE: u64 = 0x656e74697265;
 
 // A mode, or a field that names none.
-#[derive(Drop)]
+#[derive(Clone, Copy)]
 pub enum Ending {
     Mode(Mode),
     Unknown,
 }
 
 // A range, or two fields that are not both numbers.
-#[derive(Drop)]
+#[derive(Clone, Copy)]
 pub enum Bounds {
     Range(Range),
     Unknown,

@@ -1,6 +1,8 @@
 // Lines of bytes read as requests, byte by byte: a line may have any length.
 //
 // Every function here is proved, and the crate assumes nothing of its own.
+#![tactic(auto)]
+
 mod forms;
 
 ghost use Rattle.std.specs.Prelude.{◌≡◌, ◌≤◌, ◌<◌, length};
@@ -11,7 +13,7 @@ use units::{Addr, Align, Mode, Range, Size, Which};
 
 // What the bytes of a field are: none yet, a name, a number, or neither. A name has at most eight letters, and stands as
 // a number to the base 256.
-#[derive(Drop)]
+#[derive(Clone, Copy)]
 pub enum Field {
     Empty,
     Name(u64),
@@ -20,7 +22,7 @@ pub enum Field {
 }
 
 // The fields of a line that have ended. No form has more than four.
-#[derive(Drop)]
+#[derive(Clone, Copy)]
 pub enum Line {
     Zero,
     One(Field),
@@ -31,21 +33,21 @@ pub enum Line {
 }
 
 // A line that is being read: the fields that have ended, and the one that has not.
-#[derive(Drop)]
+#[derive(Clone, Copy)]
 pub struct Reader {
     pub line: Line,
     pub field: Field,
 }
 
 // A reader after some bytes, and the position after them.
-#[derive(Drop)]
+#[derive(Clone, Copy)]
 pub struct Read {
     pub reader: Reader,
     pub at: usize,
 }
 
 // What a line asks for. Unknown is a line outside the forms.
-#[derive(Drop)]
+#[derive(Clone, Copy)]
 pub enum Request {
     Unknown,
     Arena(Addr, Addr, Align),
@@ -57,7 +59,7 @@ pub enum Request {
 }
 
 // A number with one digit more, or one that would pass 2^64 - 1.
-#[derive(Drop)]
+#[derive(Clone, Copy)]
 pub enum Grown {
     More(u64),
     Over,

@@ -2,6 +2,8 @@
 //
 // Every function here is proved, and the crate assumes nothing of its own. These are inner functions: a `requires`
 // says what the calls of the land have checked before.
+#![tactic(auto)]
+
 mod placing;
 
 ghost use Rattle.std.specs.Prelude.{true, false, ◌≡◌, length};
@@ -17,7 +19,7 @@ use list_words::{Chain, Spot};
 use units::{Addr, Arena, Range};
 
 // What is to stand behind a range: low, then high, each if it is not empty, then the range at next.
-#[derive(Drop)]
+#[derive(Clone, Copy)]
 pub struct Edit {
     pub prev: Range,
     pub low: Range,
@@ -27,7 +29,7 @@ pub struct Edit {
 
 // The place of a range: behind `prev` and before the range at `next` it becomes `fresh`, joined with as many neighbours as
 // `joins` says. Where it overlaps a range of the list it has no place, and `overlaps` says so.
-#[derive(Drop)]
+#[derive(Clone, Copy)]
 pub struct Join {
     pub prev: Range,
     pub fresh: Range,
@@ -37,7 +39,7 @@ pub struct Join {
 }
 
 // A range put in: the chain afterwards, and the range that holds it.
-#[derive(Drop)]
+#[derive(Clone, Copy)]
 pub struct ChainJoined {
     pub chain: Chain,
     pub range: Range,
@@ -45,7 +47,7 @@ pub struct ChainJoined {
 
 // What a range put in or taken out gives: some byte of it is in the list already, or is not in it; or the chain afterwards,
 // and the range that holds it, or held it before.
-#[derive(Drop)]
+#[derive(Clone, Copy)]
 pub enum ChainEdited {
     Refused,
     Done(Chain, Range),

@@ -4,15 +4,12 @@ use mathlib.Core.Bool.{Bool, true, false}
 use mathlib.Core.List.{List, [], ◌∷◌}
 use mathlib.Core.Path.{◌≡◌}
 use lib.Dec.{eqb}
-use types.Run.{OneOf}
-use denote.Enum.Declared.{tag_of}
 use Rattle.units.specs.Rules.{find_size}
 use Rattle.units.specs.declared.Mode.{Mode}
 use Rattle.units.specs.declared.Range as units
 use Rattle.units.specs.declared.Size.{Size}
 use Rattle.units.specs.declared.Which.{Which}
 use Rattle.units.specs.declared.rules.Arena.{Arena}
-use Rattle.units.specs.contracts.Mode as mode-type
 use Rattle.model.specs.Calls.{good_size_in}
 use Rattle.model.specs.inner.Lists.{delete_from, plain}
 use Rattle.model.specs.Marks.{struct}
@@ -36,7 +33,7 @@ module _ (h : ListLand) (ws : List ℕ) (w : Which) (n : Size) (mode : Mode) (s 
   pub find-within : Within m s.here
   find-within = record { long = find-long list_land h ws w n mode s k g t et f a ea m em }
 
-  module _ (o : OneOf (1 ∷ 2 ∷ 3 ∷ []) (tag_of mode-type.the_type mode))
+  module _ (o : (mode ≡ Mode.None → ⊥))
       (y : units.Range) (ey : y ≡ struct (part w mode m.0 (plain s.here))) (c : Chain) (ec : c ≡ chain_in h) where
     pub find-holding : Holding a ws c s y
     find-holding =

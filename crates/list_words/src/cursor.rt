@@ -8,7 +8,7 @@ use crate::{Chain, Met};
 use units::{Addr, Arena, Range, Size, Soundness};
 
 // Where a walk stands: the lowest base that may come, the base that comes, the ranges and bytes met.
-#[derive(Drop)]
+#[derive(Clone, Copy)]
 pub struct Cursor {
     pub low: Addr,
     pub at: Addr,

@@ -2,6 +2,8 @@
 //
 // Every function here is proved, and the crate assumes nothing of its own. These are inner functions: a `requires`
 // says what the calls of the land have checked before.
+#![tactic(auto)]
+
 pub mod cursor;
 mod seeks;
 
@@ -17,7 +19,7 @@ use seeks::Sought;
 use units::{Addr, Aim, Arena, Range, Size, Soundness};
 
 // What the words say of a range at an address: its limit and the next range's base, or what is at fault.
-#[derive(Drop)]
+#[derive(Clone, Copy)]
 pub enum Met {
     Found(Addr, Addr),
     BadBase,
@@ -25,14 +27,14 @@ pub enum Met {
 }
 
 // What the descriptor of a range says: its limit, and the base of the next range, or 0.
-#[derive(Drop)]
+#[derive(Clone, Copy)]
 pub struct Descriptor {
     pub limit: Addr,
     pub next: Addr,
 }
 
 // A range of the list, with the range before it and the base of the one after it. Where there is none: (0, 0), and 0.
-#[derive(Drop)]
+#[derive(Clone, Copy)]
 pub struct Spot {
     pub prev: Range,
     pub here: Range,
@@ -40,7 +42,7 @@ pub struct Spot {
 }
 
 // The head of a list, and the number of its ranges and their bytes as the handle has them.
-#[derive(Drop)]
+#[derive(Clone, Copy)]
 pub struct Chain {
     pub head: Addr,
     pub ranges: u64,
@@ -48,7 +50,7 @@ pub struct Chain {
 }
 
 // What a walk over the whole list finds: damage, or the range aimed at (none, behind the last range, where there is none).
-#[derive(Drop)]
+#[derive(Clone, Copy)]
 pub enum Verdict {
     Damaged,
     Sound(Spot),

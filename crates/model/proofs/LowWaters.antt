@@ -51,8 +51,8 @@ least-in : (m : ℕ) (ns : List ℕ) → Among (least_from m ns) (m ∷ ns)
 least-in m [] = inl refl
 least-in m (n ∷ ns) =
     by (ltb n m)
-    (λ t. rw t (inr (least-in n ns)))
-    (λ t. rw t (skip (least-in m ns)))
+    (λ t. let z : least_from n ns ≡ least_from m (n ∷ ns) = rw t refl in subst (λ k. Among k (m ∷ n ∷ ns)) z (inr (least-in n ns)))
+    (λ t. let z : least_from m ns ≡ least_from m (n ∷ ns) = rw t refl in subst (λ k. Among k (m ∷ n ∷ ns)) z (skip (least-in m ns)))
   where
     skip : {k : ℕ} → Among k (m ∷ ns) → Among k (m ∷ n ∷ ns)
     skip (inl e) = inl e

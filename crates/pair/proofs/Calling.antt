@@ -19,19 +19,18 @@ use Rattle.list_land.specs.Layout as list
 use Rattle.list_land.specs.inner.Parts as list-parts
 use Rattle.list_land.proofs.Land as list_land
 use Rattle.block_words.specs.Words.{fill}
-use Rattle.block_words.specs.inner.Surveys.{Rising}
+use Rattle.block_words.specs.inner.Surveys.{entry_of}
 use Rattle.block_words.specs.declared.Entry.{Entry}
 use Rattle.block_land.specs.Layout as block
 use Rattle.block_land.specs.inner.Parts as block-parts
 use Rattle.block_land.proofs.Land as block_land
-use Rattle.block_land.proofs.Sound as block_fine
 use Rattle.flush.specs.Flush.{same_arena}
 use Rattle.flush.specs.Flush as flush-check
 use Rattle.flush.specs.declared.FlushCheck.{FlushCheck}
 use Rattle.pair_model.specs.Pairs.{both, PairCall, Sets, keep, pair_step}
 use Rattle.pair_model.specs.PairLayouts.{meet, pair_read}
 use Rattle.pair.specs.Calls.{lands, PairDone, called, set_up, sound}
-use Rattle.pair.specs.inner.Parts.{aim_in, check_of, check_number, Checked, Placed}
+use Rattle.pair.specs.inner.Parts.{aim_in, check_of, check_number, Checked}
 use Rattle.pair.specs.declared.Pair.{Pair}
 use Rattle.pair.specs.declared.PairCheck.{PairCheck}
 use Rattle.pair.proofs.Checking.{list_up, block_up, flush-good}
@@ -132,12 +131,12 @@ module _ (p : Pair) (ws vs : List ℕ) (aim : Aim) (v : PairCheck) (ev : v ≡ c
       ap check_number ev
       ∙ by (set_up p ws vs) (λ g. by (sound p ws vs) (λ t. rw (g, t)) (λ t. rw (g, t))) (λ g. rw g)
 
-  pub saw-checked : (s : Spot) → v ≡ PairCheck.Good s → Checked p ws vs (aim_in p aim) s
+  pub saw-checked : (s : Spot) (e : Entry) → v ≡ PairCheck.Good s e → Checked p ws vs (aim_in p aim) s e
   unfolding check_of
-  saw-checked s f =
+  saw-checked s e f =
       let t = said-0 (set_up p ws vs) (sound p ws vs) (sym told ∙ ap check_number f) in
-      let q : v ≡ PairCheck.Good (kept_of (aim_in p aim) (list.walk_of p.list ws).met) = rw (t.0, t.1) at ev in
-      record { good = t.0; whole = t.1; spot = cc }
+      let q : v ≡ PairCheck.Good (kept_of (aim_in p aim) (list.walk_of p.list ws).met) (entry_of (aim_in p aim) (block.table_of p.block vs)) = rw (t.0, t.1) at ev in
+      record { good = t.0; whole = t.1; spot = cc; entry = cc }
 
   module _ {R : Type 0} (g : PairDone → R) (c : PairCall) (d : PairDone) (ed : d ≡ called c p ws vs) where
     pub answers-5 : v ≡ PairCheck.BadSetUp → (w : R) → w ≡ g (refusal p ws vs 5) → Hands g d w ws vs
@@ -149,7 +148,7 @@ module _ (p : Pair) (ws vs : List ℕ) (aim : Aim) (v : PairCheck) (ev : v ≡ c
         damaged-is-6 g p ws vs c d ed t.0 t.1
 
 -- A PAIR THAT WAS CHECKED
-module _ (p : Pair) (ws vs : List ℕ) (aim : Aim) (s : Spot) (k : Checked p ws vs aim s) where
+module _ (p : Pair) (ws vs : List ℕ) (aim : Aim) (s : Spot) (e : Entry) (k : Checked p ws vs aim s e) where
   rest : (block.sound p.block vs && not (meet (list.walk_of p.list ws).met (block.table_of p.block vs))) ≡ true
   rest = and_right (list.sound p.list ws) _ k.whole
 
@@ -165,10 +164,8 @@ module _ (p : Pair) (ws vs : List ℕ) (aim : Aim) (s : Spot) (k : Checked p ws 
   pub list-looked : list-parts.Looked p.list ws aim s
   list-looked = record { good = list_up p ws vs k.good; whole = list-sound; kept = k.spot }
 
-  pub rising : Rising vs p.block.ranges
-  rising =
-      let f = block_fine.fine p.block vs (block_up p ws vs k.good) block-sound in
-      record { low = block.base p.block; high = block.limit p.block; fits = f.fits; above = f.place.arena.above; apart = f.apart }
+  pub block-looked : block-parts.Looked p.block vs aim e
+  block-looked = record { good = block_up p ws vs k.good; whole = block-sound; kept = k.entry }
 
   pub flush-checked : flush-check.check_of p.list ws p.block vs ≡ FlushCheck.Good
   flush-checked = flush-good p ws vs k.good list-sound block-sound
@@ -188,8 +185,3 @@ module _ (p : Pair) (ws vs : List ℕ) (aim : Aim) (s : Spot) (k : Checked p ws 
         words = both (lay (list.base p.list) rs' ws) (fill qs' vs);
       }
   accepts c f r rs' qs' d = rw (reads_both p ws vs k.good k.whole, d)
-
--- what an aim keeps of the table
-module _ (p : Pair) (ws vs : List ℕ) (aim : Aim) (s : Spot) (e : Entry) (k : Placed p ws vs aim s e) where
-  pub block-looked : block-parts.Looked p.block vs aim e
-  block-looked = record { good = block_up p ws vs k.checked.good; whole = block-sound p ws vs aim s k.checked; kept = k.entry }

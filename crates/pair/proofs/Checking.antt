@@ -27,9 +27,10 @@ use Rattle.list_land.specs.Layout as list
 use Rattle.list_land.proofs.Land as list_land
 use Rattle.list_land.specs.inner.Parts as list-parts
 use Rattle.list_land.proofs.Sound as list-sound
-use Rattle.block_words.specs.inner.Surveys.{Rising}
+use Rattle.block_words.specs.inner.Surveys.{entry_of, Rising}
 use Rattle.block_words.specs.inner.Tallies.{Ready}
-use Rattle.block_words.specs.Words.{sound_table}
+use Rattle.block_words.specs.Words.{pairs, sound_table}
+use Rattle.block_words.specs.declared.Entry.{Entry}
 use Rattle.block_words.proofs.Surveying.{sound-rising}
 use Rattle.block_land.specs.Layout as block
 use Rattle.block_land.proofs.Land as block_land
@@ -214,10 +215,10 @@ module _ (p : Pair) (ws vs : List ℕ) (aim : Aim) (good : set_up p ws vs ≡ tr
                 block_land.sound-is p.block vs ∙ rw (and_right (list-low p) (block-low p) lows, ← is-table, table-sound) in
                 rw (t, u)
 
-            pub check-good : (s : Spot) → v ≡ Verdict.Sound s → PairCheck.Good s ≡ check_of p ws vs aim
+            pub check-good : (s : Spot) → v ≡ Verdict.Sound s → (e : Entry) → e ≡ entry_of x (pairs vs n) → PairCheck.Good s e ≡ check_of p ws vs aim
             unfolding check_of
-            check-good s d =
+            check-good s d e ee =
                 by both
                 (λ t. let q : v ≡ Verdict.Sound (kept_of (aim_in p aim) met) = rw t at found in
-                let w : s ≡ kept_of (aim_in p aim) met = cc in rw (good, as-sound, t) (ap PairCheck.Good w))
+                let w : s ≡ kept_of (aim_in p aim) met = cc in rw (good, as-sound, t) (ap₂ PairCheck.Good w (ee ∙ ap (λ (y : Aim). entry_of y (pairs vs n)) is-aim)))
                 (λ t. let q : v ≡ Verdict.Damaged = rw t at found in let z : ◌≡◌ {A = ℕ} 0 1 = cc in absurd (omega arith))

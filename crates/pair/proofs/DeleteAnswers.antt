@@ -70,13 +70,13 @@ module _ (p : Pair) (ws vs : List ℕ) (y : units.Range) (s : Spot) (e : Entry) 
         (ws' vs' : List ℕ) → ws' ≡ lay (list.base p.list) rs' ws → vs' ≡ fill qs' vs →
         Deletes p ws vs y (record { pair = record { list = h; block = m }; answer = 0; range = x }) ws' vs'
     does f rs' qs' d x ex h eh m em ws' vs' ew ev =
-        let c = is-delete p ws vs y ∙ accepts p ws vs (reach_limit y) s k.placed.checked (delete b l) f (rng 0 0) rs' qs' d in
+        let c = is-delete p ws vs y ∙ accepts p ws vs (reach_limit y) s e k.checked (delete b l) f (rng 0 0) rs' qs' d in
         (rw c (λ i. record { pair = record { list = eh i; block = em i }; answer = 0; range = ex i }), rw c ew, rw c ev)
 
     -- IN THE LIST
     module _ (t : Bool) (et : t ≡ begins y s.here) where
       looked : Looked p.list ws (reach_limit y) s
-      looked = list-looked p ws vs (reach_limit y) s k.placed.checked
+      looked = list-looked p ws vs (reach_limit y) s e k.checked
 
       good : good_range_in (list.arena_of p.list) y.base.0 y.limit.0 ≡ true
       good = list-good p ws vs y s e k
@@ -94,7 +94,7 @@ module _ (p : Pair) (ws vs : List ℕ) (y : units.Range) (s : Spot) (e : Entry) 
       pub not-in-list : t ≡ false → Unlisted p ws vs y s e
       not-in-list f =
           let z = (list_fine p ws vs y s e k).place.arena.above in
-          let q = kept-reach list_land y.limit (list.base p.list) (list.limit p.list) rs z (list_fine p ws vs y s e k).apart s k.placed.checked.spot in
+          let q = kept-reach list_land y.limit (list.base p.list) (list.limit p.list) rs z (list_fine p ws vs y s e k).apart s k.checked.spot in
           record {
             asked = k;
             unlisted = sym (begins-holds y (list.base p.list) (list.limit p.list) rs z (order p ws vs y s e k) (list_fine p ws vs y s e k).apart) ∙ (rw q at (sym et ∙ f));
@@ -106,7 +106,7 @@ module _ (p : Pair) (ws vs : List ℕ) (y : units.Range) (s : Spot) (e : Entry) 
     cut_sorted = block-requests.sorted p.block vs (readable p ws vs y s e u.asked)
 
     pub cut-spot : places.FirstReach vs p.block.ranges y.limit.0 e.number
-    cut-spot = block-requests.looked-spot p.block vs y.limit e (block-looked p ws vs (reach_limit y) s e u.asked.placed)
+    cut-spot = block-requests.looked-spot p.block vs y.limit e (block-looked p ws vs (reach_limit y) s e u.asked.checked)
 
     module _ (v : TableEdited) (vs' : List ℕ) (d : (v ≡ cut_of vs p.block.ranges y) × (vs' ≡ cut_words vs p.block.ranges y)) where
       pub none-holds : v ≡ TableEdited.Refused → Nowhere p ws vs' y
@@ -132,7 +132,7 @@ module _ (p : Pair) (ws vs : List ℕ) (y : units.Range) (s : Spot) (e : Entry) 
 
       module _ (x : units.Range) (m : ℕ) (f : v ≡ TableEdited.Done x m) (z : Size) (ez : z.0 ≡ y.limit.0 - y.base.0) where
         pub cut-room : z.0 ≤ p.block.bytes.0
-        cut-room = block-edits.delete-room p.block vs y e (block-looked p ws vs (reach_limit y) s e u.asked.placed) u.asked.good v vs' d x m f z ez
+        cut-room = block-edits.delete-room p.block vs y e (block-looked p ws vs (reach_limit y) s e u.asked.checked) u.asked.good v vs' d x m f z ez
 
         pub cut-0 : (t : Size) → t.0 ≡ p.block.bytes.0 - z.0 → (h : BlockLand) → h ≡ block.closed_with p.block m t →
             Deletes p ws vs y (record { pair = record { list = p.list; block = h }; answer = 0; range = x }) ws vs'
@@ -140,7 +140,7 @@ module _ (p : Pair) (ws vs : List ℕ) (y : units.Range) (s : Spot) (e : Entry) 
             let q = sym d.0 ∙ f in
             let o = cut-done vs p.block.ranges y x m q in
             let lf = list_fine p ws vs y s e u.asked in
-            let seen = list-looked p ws vs (reach_limit y) s u.asked.placed.checked in
+            let seen = list-looked p ws vs (reach_limit y) s e u.asked.checked in
             let c = not-false (holds b l qs) o.good in
             let bf = block_fine p ws vs y s e u.asked in
             let left = total-delete b l (block.base p.block) (block.limit p.block) qs (order p ws vs y s e u.asked) bf.apart c in

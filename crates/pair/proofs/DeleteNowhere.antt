@@ -66,7 +66,7 @@ module _ (p : Pair) (ws vs : List ℕ) (y : units.Range) (k : Nowhere p ws vs y)
   module _ (a : units-arena.Arena) (ea : a ≡ arena_in p.list) where
     pub nowhere-listed : shares.Listed a ws p.list.head.0
     nowhere-listed =
-        let g = going p.list ws p.block vs (flush-checked p ws vs (reach_limit y) s asked.placed.checked) a ea in
+        let g = going p.list ws p.block vs (flush-checked p ws vs (reach_limit y) s e asked.checked) a ea in
         record { ready = g.ready; clean = g.clean }
 
     module _ (n : Size) (en : n.0 ≡ inside y.base.0 y.limit.0 (walk_of a ws p.list.head.0).met)
@@ -93,10 +93,10 @@ module _ (p : Pair) (ws vs : List ℕ) (y : units.Range) (k : Nowhere p ws vs y)
         nowhere-7 f w ew =
             refuse changed p ws vs 7 (deleted p ws vs y)
             (is-delete p ws vs y
-            ∙ refuses p ws vs (reach_limit y) s asked.placed.checked (delete b l) 7 refl (rw (asked.good, k.asked.unlisted, k.none, all_there ∙ f))) w ew
+            ∙ refuses p ws vs (reach_limit y) s e asked.checked (delete b l) 7 refl (rw (asked.good, k.asked.unlisted, k.none, all_there ∙ f))) w ew
 
         pub nowhere-1 : t ≡ false → (w : Changed) → w ≡ refused_by p 1 → Deletes p ws vs y w ws vs
         nowhere-1 f w ew =
             refuse changed p ws vs 1 (deleted p ws vs y)
             (is-delete p ws vs y
-            ∙ refuses p ws vs (reach_limit y) s asked.placed.checked (delete b l) 1 refl (rw (asked.good, k.asked.unlisted, k.none, all_there ∙ f))) w ew
+            ∙ refuses p ws vs (reach_limit y) s e asked.checked (delete b l) 1 refl (rw (asked.good, k.asked.unlisted, k.none, all_there ∙ f))) w ew

@@ -3,8 +3,6 @@ use Prim.Native.Nat.{ℕ, ◌<◌}
 use mathlib.Core.Bool.{Bool, true, cond}
 use mathlib.Core.List.{List, [], ◌∷◌}
 use mathlib.Core.Path.{◌≡◌, refl, sym, ap, ap₂, subst, ◌∙◌}
-use types.Run.{OneOf}
-use denote.Enum.Declared.{tag_of}
 use Rattle.units.specs.inner.Aims as units-aims
 use Rattle.units.specs.Rules.{good_align, find_check, find_size}
 use Rattle.units.specs.declared.Mode.{Mode}
@@ -14,7 +12,6 @@ use Rattle.units.specs.declared.Which.{Which}
 use Rattle.units.specs.declared.aims.Aim.{Aim}
 use Rattle.units.specs.declared.rules.Arena as units-arena
 use Rattle.units.specs.declared.rules.SizeCheck.{SizeCheck}
-use Rattle.units.specs.contracts.rules.SizeCheck as size_type
 use Rattle.units.proofs.Alignments.{align-positive}
 use Rattle.model.specs.Calls as land
 use Rattle.model.specs.Calls.{Arena, Step, good_size_in, size_number_in, find_size_in, unbounded}
@@ -29,8 +26,6 @@ use Rattle.list_land.specs.Calls as list-calls
 use Rattle.list_land.specs.Layout as list
 use Rattle.list_land.specs.inner.Parts as list-parts
 use Rattle.list_land.proofs.Land.{list_land}
-use Rattle.block_words.specs.Words.{pairs}
-use Rattle.block_words.specs.inner.Surveys.{entry_of}
 use Rattle.block_words.specs.declared.Entry.{Entry}
 use Rattle.block_land.specs.Calls as block-calls
 use Rattle.block_land.specs.Layout as block
@@ -41,7 +36,7 @@ use Rattle.flush.proofs.FlushKeeps.{OneArena}
 use Rattle.pair_model.specs.Pairs.{both, Sets, find, keep, in_list, in_block, find_in, pair_step}
 use Rattle.pair.specs.Calls.{called, found, found_of}
 use Rattle.pair.specs.inner.Finding.{find_aim, Ordered, side_of, ListChosen, BlockChosen, list_found, block_found}
-use Rattle.pair.specs.inner.Parts.{aim_in, check_of, Checked, Placed, found_none}
+use Rattle.pair.specs.inner.Parts.{aim_in, check_of, Checked, found_none}
 use Rattle.pair.specs.declared.Found.{Found}
 use Rattle.pair.specs.declared.Pair.{Pair}
 use Rattle.pair.specs.declared.PairCheck.{PairCheck}
@@ -55,7 +50,7 @@ pub is_found : (p : Pair) (ws vs : List ℕ) (w : Which) (n : ℕ) (mode : Mode)
 unfolding found
 is_found p ws vs w n mode = refl
 
-module _ (p : Pair) (ws vs : List ℕ) (w : Which) (n : Size) (mode : Mode) (s : Spot) (e : Entry) (k : Placed p ws vs (find_aim p w n) s e) where
+module _ (p : Pair) (ws vs : List ℕ) (w : Which) (n : Size) (mode : Mode) (s : Spot) (e : Entry) (k : Checked p ws vs (find_aim p w n) s e) where
   abbrev rs : List Range
   rs = (list.walk_of p.list ws).met
 
@@ -75,12 +70,12 @@ module _ (p : Pair) (ws vs : List ℕ) (w : Which) (n : Size) (mode : Mode) (s :
   Gives = Hands found_of (found p ws vs w n.0 mode)
 
   one : OneArena p.list p.block
-  one = same_up p ws vs k.checked.good
+  one = same_up p ws vs k.good
 
   in-list-kept : list-parts.Looked p.list ws (list-parts.find_aim p.list w n) s
   in-list-kept =
       subst (λ (x : ℕ). list-parts.Looked p.list ws (Aim.Find w (record { 0 = find_size x n.0 })) s) (sym one.align)
-      (list-looked p ws vs (find_aim p w n) s k.checked)
+      (list-looked p ws vs (find_aim p w n) s e k)
 
   in-block-kept : block-parts.Looked p.block vs (block-parts.find_aim p.block w n) e
   in-block-kept = block-looked p ws vs (find_aim p w n) s e k
@@ -103,7 +98,7 @@ module _ (p : Pair) (ws vs : List ℕ) (w : Which) (n : Size) (mode : Mode) (s :
     find-2 h v ev =
         refuse found_of p ws vs 2 (found p ws vs w n.0 mode)
         (is_found p ws vs w n.0 mode
-        ∙ refuses p ws vs (find_aim p w n) s k.checked (find w n.0 mode) 2 refl (stepped ∙ ap (by_side a c w sets) h)) v ev
+        ∙ refuses p ws vs (find_aim p w n) s e k (find w n.0 mode) 2 refl (stepped ∙ ap (by_side a c w sets) h)) v ev
 
     module _ (h : t ≡ Side.List) where
       pub list-chosen : ListChosen p.list ws w n s
@@ -127,7 +122,7 @@ module _ (p : Pair) (ws vs : List ℕ) (w : Which) (n : Size) (mode : Mode) (s :
           let b = handle-back block_land p.block vs in-block-kept.good in-block-kept.whole in
           let v = block_land.words_back p.block vs in-block-kept.good in-block-kept.whole in
           is_found p ws vs w n.0 mode
-          ∙ accepts p ws vs (find_aim p w n) s k.checked (find w n.0 mode) u.part u.old u.next qs
+          ∙ accepts p ws vs (find_aim p w n) s e k (find w n.0 mode) u.part u.old u.next qs
           (stepped ∙ ap (by_side a c w sets) h ∙ ap (λ (x : Arena). in_list (step list_ops x c rs) qs) list-arena ∙ ap (λ (x : Step (List Range)). in_list x qs) u.step)
           ∙ (λ i. record { out = (d i).out; handle = both (d i).handle (b i); words = both (d i).words (v i) })
 
@@ -150,7 +145,7 @@ module _ (p : Pair) (ws vs : List ℕ) (w : Which) (n : Size) (mode : Mode) (s :
           let b = handle-back list_land p.list ws in-list-kept.good in-list-kept.whole in
           let v = list_land.words_back p.list ws in-list-kept.good in-list-kept.whole in
           is_found p ws vs w n.0 mode
-          ∙ accepts p ws vs (find_aim p w n) s k.checked (find w n.0 mode) u.part u.old rs u.next
+          ∙ accepts p ws vs (find_aim p w n) s e k (find w n.0 mode) u.part u.old rs u.next
           (stepped ∙ ap (by_side a c w sets) h ∙ ap (in_block rs) u.step)
           ∙ (λ i. record { out = (d i).out; handle = both (b i) (d i).handle; words = both (v i) (d i).words })
 
@@ -167,11 +162,11 @@ module _ (p : Pair) (ws vs : List ℕ) (w : Which) (n : Size) (mode : Mode) (v :
   find-6 = answers-6 p ws vs (Aim.Find w n) v ev found_of (find w n.0 mode) (found p ws vs w n.0 mode) (is_found p ws vs w n.0 mode)
 
 -- THE SIZE
--- a pair that was checked, and what a find of a good size keeps of its list
-abbrev pub Asked : Pair → List ℕ → List ℕ → Which → Size → Spot → Type 0
-Asked p ws vs w n s = Checked p ws vs (find_aim p w n) s × (good_size_in (block.arena_of p.block vs) w n.0 ≡ true)
+-- a pair that was checked, and what a find of a good size keeps of it
+abbrev pub Asked : Pair → List ℕ → List ℕ → Which → Size → Spot → Entry → Type 0
+Asked p ws vs w n s e = Checked p ws vs (find_aim p w n) s e × (good_size_in (block.arena_of p.block vs) w n.0 ≡ true)
 
-module _ (p : Pair) (ws vs : List ℕ) (w : Which) (n : Size) (s : Spot) (k : Checked p ws vs (aim_in p (Aim.Find w n)) s)
+module _ (p : Pair) (ws vs : List ℕ) (w : Which) (n : Size) (s : Spot) (e : Entry) (k : Checked p ws vs (aim_in p (Aim.Find w n)) s e)
     (x : units-arena.Arena) (ex : x ≡ block-parts.arena_in p.block) where
   pub find-align : good_align x.align.0 ≡ true
   find-align = rw ex (block-sound.placed p.block vs (block_up p ws vs k.good)).arena.align
@@ -186,13 +181,13 @@ module _ (p : Pair) (ws vs : List ℕ) (w : Which) (n : Size) (s : Spot) (k : Ch
       λ i. record { base = record { 0 = o.base i }; limit = record { 0 = o.limit i }; align = record { 0 = o.align i } }
 
   module _ (c : SizeCheck) (ec : c ≡ find_check w x.base.0 x.limit.0 x.align.0 n.0) where
-    pub find-4 : OneOf (1 ∷ 2 ∷ []) (tag_of size_type.the_type c) → (mode : Mode) (r : Found) → r ≡ found_none p 4 → Hands found_of (found p ws vs w n.0 mode) r ws vs
+    pub find-4 : (c ≡ SizeCheck.Good → ⊥) → (mode : Mode) (r : Found) → r ≡ found_none p 4 → Hands found_of (found p ws vs w n.0 mode) r ws vs
     find-4 o mode =
         let z = size-refused (block.arena_of p.block vs) w n.0 (size-bad (block.arena_of p.block vs) x ex w n.0 c ec o) in
         refuse found_of p ws vs 4 (found p ws vs w n.0 mode)
-        (is_found p ws vs w n.0 mode ∙ refuses p ws vs (aim_in p (Aim.Find w n)) s k (find w n.0 mode) 4 refl (rw z))
+        (is_found p ws vs w n.0 mode ∙ refuses p ws vs (aim_in p (Aim.Find w n)) s e k (find w n.0 mode) 4 refl (rw z))
 
-    pub find-ready : c ≡ SizeCheck.Good → Asked p ws vs w n s
+    pub find-ready : c ≡ SizeCheck.Good → Asked p ws vs w n s e
     find-ready g =
         let a = block-parts.arena_in p.block in
         let f : find_check w a.base.0 a.limit.0 a.align.0 n.0 ≡ SizeCheck.Good =
@@ -201,11 +196,3 @@ module _ (p : Pair) (ws vs : List ℕ) (w : Which) (n : Size) (s : Spot) (k : Ch
         ap (λ (y : units-arena.Arena). units-aims.aim_of y (Aim.Find w n)) one-arena
         ∙ ap (λ (y : SizeCheck). units-aims.find_aim y w (record { 0 = find_size a.align.0 n.0 })) f in
         (rw q at k, size-good (block.arena_of p.block vs) x ex w n.0 c ec g)
-
-  -- and what it keeps of the table
-  pub find-placed : Asked p ws vs w n s → (m : Size) → m.0 ≡ find_size x.align.0 n.0 → (e : Entry) → e ≡ entry_of (Aim.Find w m) (pairs vs p.block.ranges) →
-      Placed p ws vs (find_aim p w n) s e
-  find-placed z m em e ee =
-      let f : m ≡ record { 0 = find_size (block.align p.block) n.0 } =
-      λ i. record { 0 = (em ∙ ap (λ (y : units-arena.Arena). find_size y.align.0 n.0) ex) i } in
-      record { checked = z.0; entry = ee ∙ ap (λ (y : Size). entry_of (Aim.Find w y) (pairs vs p.block.ranges)) f }

@@ -2,15 +2,12 @@
 use Prim.Native.Nat.{ℕ}
 use mathlib.Core.List.{List, [], ◌∷◌}
 use mathlib.Core.Path.{◌≡◌, refl, ap, ◌∙◌}
-use types.Run.{OneOf}
-use denote.Enum.Declared.{tag_of}
 use Rattle.units.specs.Rules.{find_size}
 use Rattle.units.specs.declared.Mode.{Mode}
 use Rattle.units.specs.declared.Range as units
 use Rattle.units.specs.declared.Size.{Size}
 use Rattle.units.specs.declared.Which.{Which}
 use Rattle.units.specs.declared.rules.Arena.{Arena}
-use Rattle.units.specs.contracts.Mode as mode-type
 use Rattle.model.specs.Marks.{struct}
 use Rattle.model.specs.inner.Lists.{plain}
 use Rattle.model.specs.inner.Steps.{part}
@@ -58,7 +55,7 @@ module _ (p : Pair) (ws : List ℕ) (w : Which) (n : Size) (mode : Mode) (s : Sp
   list-kept m = let u = find-kept list_land p.list ws w n mode s k.looked k.good _ refl k.there m in (ap as-list u.0, u.1)
 
   module _ (a : Arena) (ea : a ≡ list-parts.arena_in p.list) (m : Size) (em : m.0 ≡ find_size a.align.0 n.0)
-      (o : OneOf (1 ∷ 2 ∷ 3 ∷ []) (tag_of mode-type.the_type mode)) (y : units.Range) (ey : y ≡ struct (part w mode m.0 (plain s.here))) where
+      (o : (mode ≡ Mode.None → ⊥)) (y : units.Range) (ey : y ≡ struct (part w mode m.0 (plain s.here))) where
     sized : m.0 ≡ find_size p.list.align.0 n.0
     sized = em ∙ ap (λ (x : Arena). find_size x.align.0 n.0) ea
 
@@ -91,7 +88,7 @@ module _ (p : Pair) (vs : List ℕ) (w : Which) (n : Size) (mode : Mode) (e : En
   block-kept m = let u = find-kept block_land p.block vs w n mode e k.looked k.good _ refl k.there m in (ap as-block u.0, u.1)
 
   module _ (a : Arena) (ea : a ≡ block-parts.arena_in p.block) (m : Size) (em : m.0 ≡ find_size a.align.0 n.0)
-      (o : OneOf (1 ∷ 2 ∷ 3 ∷ []) (tag_of mode-type.the_type mode)) (y : units.Range) (ey : y ≡ struct (part w mode m.0 (plain e.here))) where
+      (o : (mode ≡ Mode.None → ⊥)) (y : units.Range) (ey : y ≡ struct (part w mode m.0 (plain e.here))) where
     pub block-takes : TakingTabled p.block vs e.number y
     block-takes = record {
       readable = readable p.block vs (block-parts.find_aim p.block w n) e k.looked;

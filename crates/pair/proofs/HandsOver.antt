@@ -80,11 +80,11 @@ module _ (p : Pair) (ws vs : List ℕ) (y : units.Range) (s : Spot) (e : Entry) 
 
   both-fine : PairFine a (both rs qs)
   both-fine =
-      let c = checked p.list ws p.block vs (flush-checked p ws vs (reach_limit y) s asked.placed.checked) in
+      let c = checked p.list ws p.block vs (flush-checked p ws vs (reach_limit y) s e asked.checked) in
       record {
         list_fine = list-canon p.list ws p.block vs c;
         block_fine = block-canon p.list ws p.block vs c;
-        disjoint = meet-disjoint rs qs (apart p ws vs (reach_limit y) s asked.placed.checked);
+        disjoint = meet-disjoint rs qs (apart p ws vs (reach_limit y) s e asked.checked);
       }
 
   in-q : Held b l qs
@@ -103,7 +103,7 @@ module _ (p : Pair) (ws vs : List ℕ) (y : units.Range) (s : Spot) (e : Entry) 
   -- the entry is the range that holds the request
   q-here : e.here ≡ struct q
   q-here =
-      kept-reach block_land y.limit a.base a.limit qs fine.place.arena.above fine.apart e asked.placed.entry
+      kept-reach block_land y.limit a.base a.limit qs fine.place.arena.above fine.apart e asked.checked.entry
       ∙ ap here_of (reach-holder b l a.base a.limit qs (order p ws vs y s e asked) fine.apart k.held)
 
   rules : RangeRules a l q.limit
@@ -118,7 +118,7 @@ module _ (p : Pair) (ws vs : List ℕ) (y : units.Range) (s : Spot) (e : Entry) 
       }
 
   upper-good : good_range_in (list.arena_of p.list) l q.limit ≡ true
-  upper-good = let o = same_up p ws vs asked.placed.checked.good in rw (o.base, o.limit, o.align) (rules-range a l q.limit rules)
+  upper-good = let o = same_up p ws vs asked.checked.good in rw (o.base, o.limit, o.align) (rules-range a l q.limit rules)
 
   holds-rest : holds b q.limit qs ≡ true
   holds-rest = stands.holds-part b q.limit in-q.low (omega arith)
@@ -136,7 +136,7 @@ module _ (p : Pair) (ws vs : List ℕ) (y : units.Range) (s : Spot) (e : Entry) 
       let f = mem-from a.base a.limit qs q fine.apart in-q.mem in
       let z = fine.place.arena.above in
       let n : is_none e.here ≡ false = rw q-here (ne_eqb q.base 0 (λ w. omega arith)) in
-      let en = asked.placed.entry in
+      let en = asked.checked.entry in
       subst (λ (x : Entry). Numbered vs p.block.ranges x) (sym en)
       (kept-numbered vs p.block.ranges (reach_limit y) fine.fits (rw en at n))
 
@@ -147,7 +147,7 @@ module _ (p : Pair) (ws vs : List ℕ) (y : units.Range) (s : Spot) (e : Entry) 
     pub over-asks : (t : arenas.Arena) → t ≡ arena_in p.list → (c : Chain) → c ≡ chain_in p.list → JoinAsks t ws c u s
     over-asks t et c ec =
         join-asks p.list ws u t et c ec s
-        (rw is-upper (list-looked p ws vs (reach_limit y) s asked.placed.checked)) (rw is-upper upper-good) (rw is-upper upper-apart)
+        (rw is-upper (list-looked p ws vs (reach_limit y) s e asked.checked)) (rw is-upper upper-good) (rw is-upper upper-apart)
 
     module _ (m : units.Range) (em : m ≡ range_of y.base.0 e.here.limit.0) where
       is-above : m ≡ range_of b q.limit

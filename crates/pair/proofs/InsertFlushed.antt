@@ -55,7 +55,7 @@ module _ (p : Pair) (ws vs : List ℕ) (y : units.Range) (s : Spot) (e : Entry) 
   fl = flush_of p ws vs
 
   good : check_of p.list ws p.block vs ≡ FlushCheck.Good
-  good = flush-checked p ws vs (reach_base y) s k.wanted.placed.checked
+  good = flush-checked p ws vs (reach_base y) s e k.wanted.checked
 
   known : After p ws vs
   known = after p ws vs good
@@ -103,7 +103,7 @@ module _ (p : Pair) (ws vs : List ℕ) (y : units.Range) (s : Spot) (e : Entry) 
         };
         gone = known.moved.gone;
         apart = subst (λ (x : List Range). Apart (list.base p.list) (list.limit p.list) x) whole known.list_fine.apart;
-        spot = k.wanted.placed.checked.spot ∙ ap (λ (x : List Range). kept_of (reach_base y) x) whole;
+        spot = k.wanted.checked.spot ∙ ap (λ (x : List Range). kept_of (reach_base y) x) whole;
       };
     };
     good = known.in_block.good;
@@ -129,7 +129,7 @@ module _ (p : Pair) (ws vs : List ℕ) (y : units.Range) (s : Spot) (e : Entry) 
     into_block t =
         let new = insert_in b l fl.into in
         let d = is-insert p ws vs y
-        ∙ accepts p ws vs (reach_base y) s k.wanted.placed.checked (insert b l) (holder b l new) (rng 0 0) fl.left new (rw (k.wanted.good, k.none, block-disjoint, t)) in
+        ∙ accepts p ws vs (reach_base y) s e k.wanted.checked (insert b l) (holder b l new) (rng 0 0) fl.left new (rw (k.wanted.good, k.none, block-disjoint, t)) in
         let x : w ≡ record { counts = counts_of fl.left new; range = struct (holder b l new) } = rw (known.in_block.same, length-fill fl.into vs, t) at f.0 in
         let u : ws₂ ≡ ws = rw (known.in_block.same, length-fill fl.into vs, t) at f.1 in
         let v : vs₂ ≡ fill new (flushed_nodes p ws vs) = rw (known.in_block.same, length-fill fl.into vs, t) at f.2 in
@@ -139,7 +139,7 @@ module _ (p : Pair) (ws vs : List ℕ) (y : units.Range) (s : Spot) (e : Entry) 
     into-list t =
         let new = insert_in b l fl.left in
         let d = is-insert p ws vs y
-        ∙ accepts p ws vs (reach_base y) s k.wanted.placed.checked (insert b l) (holder b l new) (rng 0 0) new fl.into (rw (k.wanted.good, k.none, block-disjoint, t, list-disjoint)) in
+        ∙ accepts p ws vs (reach_base y) s e k.wanted.checked (insert b l) (holder b l new) (rng 0 0) new fl.into (rw (k.wanted.good, k.none, block-disjoint, t, list-disjoint)) in
         let x : w ≡ record { counts = counts_of new fl.into; range = struct (holder b l new) } =
         rw (known.in_block.same, known.in_list.same, length-fill fl.into vs, t) at f.0 in
         let u : ws₂ ≡ lay (list.base p.list) new ws = rw (known.in_block.same, known.in_list.same, length-fill fl.into vs, t) at f.1 in

@@ -53,12 +53,12 @@ module _ (p : Pair) (ws vs : List ℕ) (y : units.Range) (s : Spot) where
   module _ (e : Entry) (k : Wanted p ws vs y s e) where
     pub table-asks : Sorted vs p.block.ranges × ((y.base.0 < y.limit.0) × places.FirstReach vs p.block.ranges y.base.0 e.number)
     table-asks =
-        let m = block-looked p ws vs (reach_base y) s e k.placed in
+        let m = block-looked p ws vs (reach_base y) s e k.checked in
         (block-requests.sorted p.block vs (readable p ws vs y s e k), (order p ws vs y s e k, block-requests.looked-spot p.block vs y.base e m))
 
     module _ (a : units-arena.Arena) (ea : a ≡ list-parts.arena_in p.list) (c : Chain) (ec : c ≡ list-parts.chain_in p.list) where
       pub list-asks : Held a ws c (reach_base y) s × (may_ask a y ≡ true)
-      list-asks = (list-requests.looked-held p.list ws (reach_base y) s (list-looked p ws vs (reach_base y) s k.placed.checked) a ea c ec, rw ea (list-good p ws vs y s e k))
+      list-asks = (list-requests.looked-held p.list ws (reach_base y) s (list-looked p ws vs (reach_base y) s e k.checked) a ea c ec, rw ea (list-good p ws vs y s e k))
 
       module _ (t : Bool) (et : t ≡ overlaps y.base.0 y.limit.0 (met_of a ws c)) where
         in_list : t ≡ overlaps b l rs
@@ -74,7 +74,7 @@ module _ (p : Pair) (ws vs : List ℕ) (y : units.Range) (s : Spot) where
       pub taken-1 : t ≡ true → (w : Changed) → w ≡ refused_by p 1 → Inserts p ws vs y w ws vs
       taken-1 f w ew =
           refuse changed p ws vs 1 (inserted p ws vs y)
-          (is-insert p ws vs y ∙ refuses p ws vs (reach_base y) s k.placed.checked (insert b l) 1 refl (rw (k.good, sym et ∙ f))) w ew
+          (is-insert p ws vs y ∙ refuses p ws vs (reach_base y) s e k.checked (insert b l) 1 refl (rw (k.good, sym et ∙ f))) w ew
 
       pub not_taken : t ≡ false → Bare p ws vs y s e
       not_taken f = record { wanted = k; none = sym et ∙ f }

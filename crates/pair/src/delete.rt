@@ -2,14 +2,14 @@
 // upper one goes to the list.
 ghost use Rattle.std.specs.Prelude.{◌≡◌};
 ghost use Rattle.pair.specs.Calls.{changed, deleted};
-ghost use Rattle.pair.specs.inner.Parts.{Placed};
+ghost use Rattle.pair.specs.inner.Parts.{Checked};
 ghost use Rattle.list_land.specs.inner.Parts.{reach_limit};
 ghost use Rattle.pair.specs.inner.Deletes.{begins, Asked, Unlisted, Spilling, Nowhere};
 
 use crate::edits::{take_listed, take_tabled};
 use crate::{Changed, Pair, PairCheck, refused};
 use block_edits::TableEdited;
-use block_words::{Entry, seeks};
+use block_words::Entry;
 use list_words::Spot;
 use units::{Aim, Range, RangeCheck};
 
@@ -51,9 +51,9 @@ impl Pair {
         requires { Spilling self words.old nodes.old range spot entry }
         ensures { (result ≡ changed (deleted self words.old nodes.old range)) × (words.new ≡ (deleted self words.old nodes.old range).words.list) × (nodes.new ≡ (deleted self words.old nodes.old range).words.block) }
     {
-        let old = entry.here;
-        let upper = Range::new(range.limit, old.limit);
-        let above = Range::new(range.base, old.limit);
+        let here = entry.here;
+        let upper = Range::new(range.limit, here.limit);
+        let above = Range::new(range.base, here.limit);
         let list = self.list;
         let joined = list_edits::join_at(list.arena(), words, list.chain(), upper, spot);
         let chain = joined.chain;
@@ -63,7 +63,7 @@ impl Pair {
         Changed {
             pair,
             answer: 0,
-            range: old,
+            range: here,
         }
     }
 
@@ -110,17 +110,17 @@ impl Pair {
         ensures { (result ≡ changed (deleted self words.old nodes.old range)) × (words.new ≡ (deleted self words.old nodes.old range).words.list) × (nodes.new ≡ (deleted self words.old nodes.old range).words.block) }
     {
         let here = spot.here;
-        if !begins_below(range, here) {
-            return self.delete_tabled(words, nodes, range, spot, entry);
+        if begins_below(range, here) {
+            let block = self.block;
+            let list = take_listed(self.list, words, range, spot);
+            let pair = Pair { list, block };
+            return Changed {
+                pair,
+                answer: 0,
+                range: here,
+            };
         }
-        let block = self.block;
-        let list = take_listed(self.list, words, range, spot);
-        let pair = Pair { list, block };
-        Changed {
-            pair,
-            answer: 0,
-            range: here,
-        }
+        self.delete_tabled(words, nodes, range, spot, entry)
     }
 
     // Delete from a pair that was checked, at the first ranges that reach the limit of the request.
@@ -132,10 +132,10 @@ impl Pair {
         spot: Spot,
         entry: Entry,
     ) -> Changed
-        requires { Placed self words.old nodes.old (reach_limit range) spot entry }
+        requires { Checked self words.old nodes.old (reach_limit range) spot entry }
         ensures { (result ≡ changed (deleted self words.old nodes.old range)) × (words.new ≡ (deleted self words.old nodes.old range).words.list) × (nodes.new ≡ (deleted self words.old nodes.old range).words.block) }
     {
-        let RangeCheck::Good = self.block.arena().by_bit().check_range(range) else {
+        let RangeCheck::Good = self.block.arena().divided().check_range(range) else {
             return refused(self, 4);
         };
         self.delete_good(words, nodes, range, spot, entry)
@@ -150,9 +150,9 @@ impl Pair {
         match self.check(words, nodes, Aim::Reach(limit)) {
             PairCheck::BadSetUp => refused(self, 5),
             PairCheck::Damaged => refused(self, 6),
-            PairCheck::Good(s) => {
+            PairCheck::Good(s, e) => {
                 let spot = s;
-                let entry = seeks::reached(nodes, self.block.ranges as usize, limit);
+                let entry = e;
                 self.delete_at(words, nodes, range, spot, entry)
             }
         }

@@ -11,12 +11,12 @@ ghost use Rattle.pair.specs.inner.Finding.{Ordered, side_of, ListChosen, BlockCh
 
 use crate::edits::{take_listed, take_tabled};
 use crate::{Found, Pair, PairCheck, none_found};
-use block_words::{Entry, seeks};
+use block_words::Entry;
 use list_words::Spot;
 use units::{Aim, Mode, Range, Size, SizeCheck, Which};
 
 // The land whose range is taken.
-#[derive(Drop)]
+#[derive(Clone, Copy)]
 pub enum Side {
     Neither,
     List,
@@ -133,7 +133,7 @@ impl Pair {
         }
     }
 
-    // A find in a sound pair, at the range chosen in the list: 4, the range chosen in the table, 2, and the removal.
+    // A find in a sound pair, at the ranges chosen in both lands: 4, 2, and the removal.
     fn find_at(
         self,
         words: &mut [u64],
@@ -142,17 +142,15 @@ impl Pair {
         size: Size,
         mode: Mode,
         spot: Spot,
+        entry: Entry,
     ) -> Found
-        requires { Checked self words.old nodes.old (aim_in self (Aim·.Find which size)) spot }
+        requires { Checked self words.old nodes.old (aim_in self (Aim·.Find which size)) spot entry }
         ensures { (result ≡ found_of (found self words.old nodes.old which size.0 mode)) × (words.new ≡ (found self words.old nodes.old which size.0 mode).words.list) × (nodes.new ≡ (found self words.old nodes.old which size.0 mode).words.block) }
     {
         let block = self.block;
-        let arena = block.arena().by_bit();
-        let SizeCheck::Good = arena.check_find(which, size) else {
+        let SizeCheck::Good = block.arena().by_bit().check_find(which, size) else {
             return none_found(self, 4);
         };
-        let n = block.ranges as usize;
-        let entry = seeks::found(nodes, n, which, arena.find_size(size));
         match choose_side(which, spot.here, entry.here) {
             Side::Neither => none_found(self, 2),
             Side::List => self.find_in_list(words, which, size, mode, spot),
@@ -160,7 +158,7 @@ impl Pair {
         }
     }
 
-    // The find that `which` names: the checks, 5 and 6, and then 4, 2 and the removal.
+    // The find that `which` names: the set-up, the size, the one look at both lands, and then 6, 4, 2 and the removal.
     fn find(
         self,
         words: &mut [u64],
@@ -174,9 +172,10 @@ impl Pair {
         match self.check(words, nodes, Aim::Find(which, size)) {
             PairCheck::BadSetUp => none_found(self, 5),
             PairCheck::Damaged => none_found(self, 6),
-            PairCheck::Good(s) => {
+            PairCheck::Good(s, e) => {
                 let spot = s;
-                self.find_at(words, nodes, which, size, mode, spot)
+                let entry = e;
+                self.find_at(words, nodes, which, size, mode, spot, entry)
             }
         }
     }

@@ -5,7 +5,7 @@ ghost use Rattle.block_words.specs.inner.Surveys as places;
 ghost use Rattle.flush.specs.Flush.{check_of};
 ghost use Rattle.flush.specs.declared.FlushCheck.TheVariants.{Good};
 ghost use Rattle.pair.specs.Calls.{changed, inserted};
-ghost use Rattle.pair.specs.inner.Parts.{Placed};
+ghost use Rattle.pair.specs.inner.Parts.{Checked};
 ghost use Rattle.pair.specs.inner.Inserts.{flushed_counts, flushed_nodes, closed_by, Roomless, Open, enter_list, enter_words, entered, entered_words, entered_nodes, taken_in, Wanted, Bare, Preparable};
 
 use crate::{Changed, Pair, PairCheck, refused};
@@ -14,7 +14,7 @@ use list_words::{Chain, Spot};
 use units::{Aim, Range, RangeCheck, Size};
 
 // What an insert works on until it closes both handles: the chain of the list, the ranges and the bytes of the table.
-#[derive(Drop)]
+#[derive(Clone, Copy)]
 pub struct Counts {
     pub chain: Chain,
     pub ranges: u64,
@@ -22,14 +22,14 @@ pub struct Counts {
 }
 
 // The counts after a flush, and the place of a range in the table.
-#[derive(Drop)]
+#[derive(Clone, Copy)]
 pub struct Prepared {
     pub counts: Counts,
     pub place: usize,
 }
 
 // The counts with a range put in, and the isolated range that then contains it.
-#[derive(Drop)]
+#[derive(Clone, Copy)]
 pub struct Entered {
     pub counts: Counts,
     pub range: Range,
@@ -195,7 +195,7 @@ impl Pair {
         spot: Spot,
         entry: Entry,
     ) -> Changed
-        requires { Placed self words.old nodes.old (reach_base range) spot entry }
+        requires { Checked self words.old nodes.old (reach_base range) spot entry }
         ensures { (result ≡ changed (inserted self words.old nodes.old range)) × (words.new ≡ (inserted self words.old nodes.old range).words.list) × (nodes.new ≡ (inserted self words.old nodes.old range).words.block) }
     {
         let RangeCheck::Good = self.block.arena().by_bit().check_range(range) else {
@@ -216,9 +216,9 @@ impl Pair {
         match self.check(words, nodes, Aim::Reach(base)) {
             PairCheck::BadSetUp => refused(self, 5),
             PairCheck::Damaged => refused(self, 6),
-            PairCheck::Good(s) => {
+            PairCheck::Good(s, e) => {
                 let spot = s;
-                let entry = seeks::reached(nodes, self.block.ranges as usize, base);
+                let entry = e;
                 self.insert_at(words, nodes, range, spot, entry)
             }
         }

@@ -3,6 +3,8 @@
 // Every call takes every pair of handles, every lent memory and every number. A refused call returns empty ranges and the
 // handles that it was given, and changes no word of either memory. Every function here is proved, and the crate assumes
 // nothing of its own.
+#![tactic(auto)]
+
 mod delete;
 mod edits;
 mod find;
@@ -14,6 +16,7 @@ ghost use Rattle.pair.specs.Calls.{set_up};
 ghost use Rattle.pair.specs.inner.Parts.{sound_lows, check_of, refused_by, found_none};
 
 use block_land::BlockLand;
+use block_words::{Entry, seeks};
 use list_land::ListLand;
 use list_words::{Spot, Verdict};
 use pair_words::walks;
@@ -21,7 +24,7 @@ use units::{Aim, Range, SetUp, Soundness};
 
 // The handles of both lands.
 #[repr(C)]
-#[derive(Drop)]
+#[derive(Clone, Copy)]
 pub struct Pair {
     pub list: ListLand,
     pub block: BlockLand,
@@ -29,7 +32,7 @@ pub struct Pair {
 
 // What insert and delete return: the next handles, the answer's number, and the range.
 #[repr(C)]
-#[derive(Drop)]
+#[derive(Clone, Copy)]
 pub struct Changed {
     pub pair: Pair,
     pub answer: u64,
@@ -38,7 +41,7 @@ pub struct Changed {
 
 // What a find returns: the next handles, the answer's number, the range found, and the range that it was found in.
 #[repr(C)]
-#[derive(Drop)]
+#[derive(Clone, Copy)]
 pub struct Found {
     pub pair: Pair,
     pub answer: u64,
@@ -47,12 +50,12 @@ pub struct Found {
 }
 
 // What a call finds before it looks at its request: a bad set-up or two arenas, a land that is not sound or lands that
-// overlap, or what the aim keeps of the list.
-#[derive(Drop)]
+// overlap, or what the aim keeps of both.
+#[derive(Clone, Copy)]
 pub enum PairCheck {
     BadSetUp,
     Damaged,
-    Good(Spot),
+    Good(Spot, Entry),
 }
 
 fn refused(pair: Pair, answer: u64) -> Changed
@@ -105,8 +108,8 @@ impl Pair {
         tabled.check(block.bytes)
     }
 
-    // The checks of a call: the set-up, a sound table, low water, then in one walk a sound list with no byte that is in the table
-    // too. What the call asks for is kept of the list; the call looks it up in the table itself.
+    // The checks of a call: the set-up, a sound table, then in one walk a sound list with no byte that is in the table too, and low
+    // water, last: tested before the walk it costs more at every range. What the call asks for is kept of both.
     pub fn check(self, words: &[u64], nodes: &[u64], aim: Aim) -> PairCheck
         ensures { result ≡ check_of self words.now nodes.now aim }
     {
@@ -120,15 +123,15 @@ impl Pair {
         let Soundness::Sound = block_words::sound(arena, nodes, block.ranges, bytes) else {
             return PairCheck::Damaged;
         };
-        let Soundness::Sound = self.low_waters() else {
-            return PairCheck::Damaged;
-        };
         let n = block.ranges as usize;
         let arena = arena.divided();
         let aim = arena.aim_of(aim);
-        match walks::survey(arena, words, list.chain(), nodes, n, aim) {
-            Verdict::Damaged => PairCheck::Damaged,
-            Verdict::Sound(spot) => PairCheck::Good(spot),
-        }
+        let Verdict::Sound(spot) = walks::survey(arena, words, list.chain(), nodes, n, aim) else {
+            return PairCheck::Damaged;
+        };
+        let Soundness::Sound = self.low_waters() else {
+            return PairCheck::Damaged;
+        };
+        PairCheck::Good(spot, seeks::entry(nodes, n, aim))
     }
 }

@@ -3,8 +3,6 @@ use Prim.Native.Nat.{ℕ, ◌+◌, ◌-◌, ◌<◌}
 use mathlib.Core.Bool.{Bool, true, false, not, and-false, and-true}
 use mathlib.Core.List.{List, [], ◌∷◌}
 use mathlib.Core.Path.{◌≡◌, sym, ap, ◌∙◌}
-use types.Run.{OneOf}
-use denote.Enum.Declared.{tag_of}
 use lib.Dec.{eqb}
 use lib.ListN.{length}
 use Rattle.units.specs.inner.Aims.{keeps_first}
@@ -26,7 +24,6 @@ use Rattle.list_words.specs.declared.Met.{Met}
 use Rattle.list_words.specs.declared.Spot.{Spot}
 use Rattle.list_words.specs.declared.Verdict.{Verdict}
 use Rattle.list_words.specs.declared.cursor.Cursor.{Cursor}
-use Rattle.list_words.specs.contracts.Met.{the_type}
 use Rattle.list_words.proofs.Going.{sound-not, sound-counts, along-broken, along-near, along-next, along-less, along-done}
 use Rattle.list_words.proofs.Surveying.{sound-clean}
 use Rattle.block_words.specs.Words.{pairs}
@@ -93,7 +90,7 @@ module _ (a : Arena) (ws : List ℕ) (ready : Ready a (length ws)) (h : Chain) (
       et ∙ ap soundness_of (sound-counts a ws h c d ∙ apart a ws h vs n o)
 
   module _ (f : not z ≡ true) (m : Met) (em : m ≡ range_at a.base.0 a.limit.0 a.align.0 ws c.low.0 c.at.0) where
-    pub on-broken : OneOf (1 ∷ 2 ∷ []) (tag_of the_type m) → Soundness.Damaged ≡ soundness_of (sound_beside a ws h vs n)
+    pub on-broken : ((e' n' : Addr) → m ≡ Met.Found e' n' → ⊥) → Soundness.Damaged ≡ soundness_of (sound_beside a ws h vs n)
     on-broken g = ap soundness_of (sym (broken a ws h vs n (along-broken a ws ready h.head.0 c s.along z ez f m em g)))
 
     module _ (e x : Addr) (fm : m ≡ Met.Found e x) where

@@ -3,8 +3,6 @@ use Prim.Native.Nat.{ℕ, ◌+◌, ◌-◌, ◌≤◌, ◌<◌}
 use mathlib.Core.Bool.{Bool, true, false, not}
 use mathlib.Core.List.{List, [], ◌∷◌}
 use mathlib.Core.Path.{◌≡◌, sym, ap, subst}
-use types.Run.{OneOf}
-use denote.Enum.Declared.{tag_of}
 use lib.Dec.{eqb}
 use lib.ListN.{length}
 use Rattle.units.specs.inner.Aims.{none_range, keeps_first, fits}
@@ -24,7 +22,6 @@ use Rattle.list_words.specs.declared.Met.{Met}
 use Rattle.list_words.specs.declared.Spot.{Spot}
 use Rattle.list_words.specs.declared.cursor.Cursor.{Cursor}
 use Rattle.list_words.specs.declared.seeks.Sought as list
-use Rattle.list_words.specs.contracts.Met.{the_type}
 use Rattle.list_words.proofs.Going.{along-near, along-less}
 use Rattle.list_words.proofs.Seeking.{Seeking, seek-start, seek-broken, seek-order, seek-at, seek-next, seek-end}
 use Rattle.list_words.proofs.Staying.{first-kept}
@@ -65,7 +62,7 @@ module _ (a : Arena) (ws : List ℕ) (ready : Ready a (length ws)) (vs : List �
     pursue-end f v ev = (seek-end a ws ready g h s es p c k.seeking z ez f v ev, abreast)
 
     module _ (f : not z ≡ true) (m : Met) (em : m ≡ range_at a.base.0 a.limit.0 a.align.0 ws c.low.0 c.at.0) where
-      pub pursue-broken : OneOf (1 ∷ 2 ∷ []) (tag_of the_type m) → Found SoughtBeside.Broken
+      pub pursue-broken : ((e' n' : Addr) → m ≡ Met.Found e' n' → ⊥) → Found SoughtBeside.Broken
       pursue-broken o w = absurd (seek-broken a ws ready g h s es p c k.seeking z ez f m em o w)
 
       module _ (e x : Addr) (fm : m ≡ Met.Found e x) where

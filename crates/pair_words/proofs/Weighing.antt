@@ -3,8 +3,6 @@ use Prim.Native.Nat.{ℕ, ◌+◌, ◌-◌, ◌<◌}
 use mathlib.Core.Bool.{Bool, true, false, not}
 use mathlib.Core.List.{List, [], ◌∷◌}
 use mathlib.Core.Path.{◌≡◌, sym, ap, ◌∙◌}
-use types.Run.{OneOf}
-use denote.Enum.Declared.{tag_of}
 use lib.Dec.{eqb}
 use lib.ListN.{length}
 use Rattle.units.specs.inner.Aims.{none_range, takes, Sized}
@@ -24,7 +22,6 @@ use Rattle.list_words.specs.declared.Met.{Met}
 use Rattle.list_words.specs.declared.Spot.{Spot}
 use Rattle.list_words.specs.declared.Verdict.{Verdict}
 use Rattle.list_words.specs.declared.cursor.Cursor.{Cursor}
-use Rattle.list_words.specs.contracts.Met.{the_type}
 use Rattle.list_words.proofs.Going.{sound-counts, along-broken, along-near, along-less, along-done}
 use Rattle.list_words.proofs.Weighing.{Weighing, weigh-start, weigh-sized, weigh-taken, weigh-left}
 use Rattle.block_words.specs.inner.Tallies.{behind}
@@ -66,7 +63,7 @@ module _ (a : Arena) (ws : List ℕ) (ready : Ready a (length ws)) (h : Chain) (
 
     -- a range comes
     module _ (f : not z ≡ true) (m : Met) (em : m ≡ range_at a.base.0 a.limit.0 a.align.0 ws c.low.0 c.at.0) where
-      pub ponder-broken : OneOf (1 ∷ 2 ∷ []) (tag_of the_type m) → Answer Verdict.Damaged
+      pub ponder-broken : ((e' n' : Addr) → m ≡ Met.Found e' n' → ⊥) → Answer Verdict.Damaged
       ponder-broken g = damaged a ws h vs n aim (broken a ws h vs n (along-broken a ws ready h.head.0 c s.weighing.along z ez f m em g))
 
       module _ (e x : Addr) (fm : m ≡ Met.Found e x) where

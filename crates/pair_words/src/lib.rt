@@ -2,6 +2,8 @@
 //
 // Every function here is proved, and the crate assumes nothing of its own. These are inner functions: a `requires`
 // says what the calls of a pair have checked before.
+#![tactic(auto)]
+
 pub mod walks;
 
 ghost use Rattle.std.specs.Prelude.{cond, ◌≡◌, leb};

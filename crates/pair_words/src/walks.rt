@@ -14,7 +14,7 @@ use list_words::{Chain, Met, Spot, Verdict};
 use units::{Addr, Aim, Arena, Goal, Range, Size, Soundness};
 
 // Where a range stands beside a table: it overlaps a pair; or before the first pair that ends above its base, or behind all.
-#[derive(Drop)]
+#[derive(Clone, Copy)]
 pub enum Beside {
     Overlaps,
     At(usize),
@@ -42,7 +42,7 @@ fn place_beside(nodes: &[u64], n: usize, from: usize, here: Range) -> Beside
 
 // A fault, or lands that overlap; or the first range that fits (none, behind the last range, where there is none), the cursor
 // behind it, and the number of the pair that stands there.
-#[derive(Drop)]
+#[derive(Clone, Copy)]
 pub enum SoughtBeside {
     Broken,
     At(Spot, Cursor, usize),

@@ -3,6 +3,8 @@
 // What is printed for which input is proved in `script`; this program reads, lends and writes. It assumes the contracts of
 // the kit's libc and os, and nothing else. Where an input cannot be read or an answer not be written, it says so in a line on
 // standard error and ends; else `streams` tells whoever started it that all was written.
+#![tactic(auto)]
+
 ghost use Rattle.std.specs.Prelude.{◌≤◌, length};
 ghost use Rattle.play.specs.inner.Steps.{Still, Stills};
 
@@ -10,7 +12,7 @@ use script::Script;
 use streams::Input;
 
 // Where the program stands after some bytes: it goes on, the input has ended, or what it prints is no longer taken.
-#[derive(Drop)]
+#[derive(Clone, Copy)]
 pub enum Step {
     More(Script),
     Ended(Script),

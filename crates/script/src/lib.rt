@@ -1,6 +1,8 @@
 // Requests played on a list land, from the bytes of their lines to the bytes of their answers.
 //
 // Every function here is proved, and the crate assumes nothing of its own.
+#![tactic(auto)]
+
 mod turns;
 
 ghost use Rattle.std.specs.Prelude.{◌≡◌, ◌≤◌, ◌<◌, length};
@@ -12,7 +14,7 @@ use list_land::ListLand;
 use units::Addr;
 
 // No arena yet; a land; or a land with a description that goes on from an address.
-#[derive(Drop)]
+#[derive(Clone, Copy)]
 pub enum Stage {
     Closed,
     Open(ListLand),
@@ -20,14 +22,14 @@ pub enum Stage {
 }
 
 // A stage after a request, and the position in the output.
-#[derive(Drop)]
+#[derive(Clone, Copy)]
 pub struct Turn {
     pub stage: Stage,
     pub at: usize,
 }
 
 // Where a script stands: its stage, and the line that is being read.
-#[derive(Drop)]
+#[derive(Clone, Copy)]
 pub struct Script {
     pub stage: Stage,
     pub reader: Reader,
@@ -35,7 +37,7 @@ pub struct Script {
 
 // A script after some bytes: how many of them were used, how many were put out, and whether it stopped because the buffer
 // is too short or a description has to be printed first.
-#[derive(Drop)]
+#[derive(Clone, Copy)]
 pub struct Fed {
     pub script: Script,
     pub used: usize,

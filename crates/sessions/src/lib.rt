@@ -1,1 +1,2 @@
 // The sessions of document 01 with known ends, on both lands: no code.
+#![tactic(auto)]

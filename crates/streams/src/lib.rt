@@ -3,11 +3,13 @@
 //
 // Every function here is proved safe and ending, and the crate assumes nothing of its own. What is read and written no contract
 // can say. A call is tried again 2^64 - 1 times at most, since every loop has to end.
+#![tactic(auto)]
+
 ghost use Rattle.std.specs.Prelude.{◌≤◌, length};
 ghost use Rattle.streams.specs.inner.Inputs.{Holds};
 
 // What a read brought: so many bytes, one at least, at the start of the buffer; the end of the input; or a failure.
-#[derive(Drop)]
+#[derive(Clone, Copy)]
 pub enum Input {
     Bytes(usize),
     End,

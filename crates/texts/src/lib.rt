@@ -1,6 +1,8 @@
 // Numbers written in decimal into a lent buffer.
 //
 // Every function here is proved, and the crate assumes nothing of its own.
+#![tactic(auto)]
+
 ghost use Rattle.std.specs.Prelude.{◌≡◌, [], ◌∷◌, ◌++◌, ◌+◌, ◌≤◌, ◌<◌, length};
 ghost use Rattle.texts.specs.Decimal.{decimal, line};
 ghost use Rattle.texts.specs.inner.Writing.{Wrote};

@@ -2,6 +2,8 @@
 //
 // Each copies the handle, calls the method of the list land, stores the next handle where the old one stood, and returns
 // what the method returned. Every function here is proved, and the crate assumes nothing of its own.
+#![tactic(auto)]
+
 ghost use Rattle.std.specs.Prelude.{◌≡◌};
 ghost use Rattle.list_land.specs.Calls.{changed, inserted, deleted, walked};
 

@@ -7,7 +7,7 @@ use crate::{Size, Soundness};
 
 // The mark, 0 or 1, and low water; both 0 as long as no accepted call has left the land non-empty.
 #[repr(C)]
-#[derive(Drop)]
+#[derive(Clone, Copy)]
 pub struct LowWater {
     pub filled: u64,
     pub low: Size,

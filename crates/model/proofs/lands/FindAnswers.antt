@@ -6,8 +6,6 @@ use mathlib.Core.Option.{Option, none, some}
 use mathlib.Core.Path.{◌≡◌, refl, sym, ap, ap₂, ◌∙◌}
 use native.Mathlib.Omega.{arith}
 use lib.Dec.{eqb}
-use types.Run.{OneOf}
-use denote.Enum.Declared.{tag_of}
 use Rattle.units.specs.inner.Aims.{none_range, find_aim, aim_of}
 use Rattle.units.specs.Rules.{find_check, find_size}
 use Rattle.units.specs.inner.Parts.{set_up_of}
@@ -20,8 +18,6 @@ use Rattle.units.specs.declared.rules.Arena.{Arena}
 use Rattle.units.specs.declared.rules.SetUp.{SetUp}
 use Rattle.units.specs.declared.rules.SizeCheck.{SizeCheck}
 use Rattle.units.proofs.Cases.{set-up-false}
-use Rattle.units.specs.contracts.Mode as mode-type
-use Rattle.units.specs.contracts.rules.SizeCheck as size_type
 use Rattle.model.specs.Calls.{Call, find, good_size_in, find_size_in}
 use Rattle.model.specs.inner.Lists.{delete_from, plain}
 use Rattle.model.specs.Marks.{Range, struct}
@@ -71,7 +67,7 @@ module _ {H L S C F : Type 0} (I : Land H L S C F) (h : H) (ws : List ℕ) where
   -- A SOUND LAND, THE SIZE CHECKED
   module _ (w : Which) (n : Size) (a : Arena) (ea : a ≡ I.arena-in h) (r : SizeCheck) (er : r ≡ find_check w a.base.0 a.limit.0 a.align.0 n.0)
       (aim : Aim) (s : S) (k : Kept I h ws aim s) where
-    pub find-4 : OneOf (1 ∷ 2 ∷ []) (tag_of size_type.the_type r) → (mode : Mode) (v : F) → v ≡ I.find-made h 4 none_range none_range →
+    pub find-4 : (r ≡ SizeCheck.Good → ⊥) → (mode : Mode) (v : F) → v ≡ I.find-made h 4 none_range none_range →
         Finds I v ws (I.does (find w n.0 mode) h ws)
     find-4 t mode v e =
         let b = I.layout.arena h ws in
@@ -146,7 +142,7 @@ module _ {H L S C F : Type 0} (I : Land H L S C F) (h : H) (ws : List ℕ) where
             rw choice.here (omega arith)
 
         -- a part of it is taken out
-        module _ (o : OneOf (1 ∷ 2 ∷ 3 ∷ []) (tag_of mode-type.the_type mode)) (y : units.Range) (ey : y ≡ struct (part w mode m.0 (plain (I.here s)))) where
+        module _ (o : (mode ≡ Mode.None → ⊥)) (y : units.Range) (ey : y ≡ struct (part w mode m.0 (plain (I.here s)))) where
           abbrev p : Range
           p = part w mode want q
 

@@ -3,8 +3,6 @@ use Prim.Native.Nat.{ℕ, ◌≤◌, ◌<◌}
 use mathlib.Core.Bool.{true, false, cond, and-true, and-false}
 use mathlib.Core.List.{List, [], ◌∷◌}
 use mathlib.Core.Path.{◌≡◌, sym, ap, ◌∙◌}
-use types.Run.{OneOf}
-use denote.Enum.Declared.{tag_of}
 use Rattle.units.specs.Rules.{good_align, good_arena}
 use Rattle.units.specs.Words.{range_of}
 use Rattle.units.specs.LowWater.{sound_low}
@@ -19,7 +17,6 @@ use Rattle.units.proofs.Alignments.{align-positive}
 use Rattle.units.proofs.Cases.{good-case, bad-arena, set-up-true, set-up-false, sound-true, sound-false}
 use Rattle.units.proofs.Facts.{GoodArena, arena-facts}
 use Rattle.units.proofs.Tests.{by, and_left}
-use Rattle.units.specs.contracts.rules.ArenaCheck as arena-type
 use Rattle.model.specs.Answers.{LandRight}
 use Rattle.model.proofs.Calling.{read-rows, call-right}
 use Rattle.model.proofs.lands.Land.{Land, check-of}
@@ -45,7 +42,7 @@ module _ {H L S C F : Type 0} (X : Land H L S C F) where
     here : x ≡ check-of (X.arena-in h)
     here = e ∙ ap check-of ea
 
-    pub set-up-bad : OneOf (1 ∷ 2 ∷ 3 ∷ []) (tag_of arena-type.the_type x) → SetUp.Bad ≡ set_up_of (X.set-up h ws)
+    pub set-up-bad : (x ≡ ArenaCheck.Good → ⊥) → SetUp.Bad ≡ set_up_of (X.set-up h ws)
     set-up-bad t = let g : good_arena (check-of (X.arena-in h)) ≡ false = rw here at (bad-arena x t) in rw (X.set-up-is h ws, g)
 
     module _ (g : x ≡ ArenaCheck.Good) where

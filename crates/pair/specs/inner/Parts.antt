@@ -27,33 +27,29 @@ abbrev pub sound_lows : Pair → Bool
 sound_lows p = sound_low p.list.water p.list.bytes.0 && sound_low p.block.water p.block.bytes.0
 
 module _ (p : Pair) (ws vs : List ℕ) where
-  -- 5, then 6, then what the aim keeps of the list.
+  -- 5, then 6, then what the aim keeps of both.
   unfoldable pub check_of : Aim → PairCheck
   check_of aim =
       cond (set_up p ws vs)
-      (cond (sound p ws vs) (PairCheck.Good (kept_of (aim_in p aim) (list.walk_of p.list ws).met)) PairCheck.Damaged)
+      (cond (sound p ws vs) (PairCheck.Good (kept_of (aim_in p aim) (list.walk_of p.list ws).met) (entry_of (aim_in p aim) (block.table_of p.block vs))) PairCheck.Damaged)
       PairCheck.BadSetUp
 
 -- 01's number of each case: 5, 6, or 0.
 abbrev pub check_number : PairCheck → ℕ
 check_number PairCheck.BadSetUp = 5
 check_number PairCheck.Damaged = 6
-check_number (PairCheck.Good s) = 0
+check_number (PairCheck.Good s e) = 0
 
--- Both lands are sound and apart, and this is what an aim keeps of the list.
-pub record Checked (p : Pair) (ws vs : List ℕ) (aim : Aim) (s : Spot) : Type 0 where
+-- Both lands are sound and apart, and these are what an aim keeps of them.
+pub record Checked (p : Pair) (ws vs : List ℕ) (aim : Aim) (s : Spot) (e : Entry) : Type 0 where
   pub good : set_up p ws vs ≡ true
   pub whole : sound p ws vs ≡ true
   pub spot : s ≡ kept_of aim (list.walk_of p.list ws).met
-
--- And this is what it keeps of the table.
-pub record Placed (p : Pair) (ws vs : List ℕ) (aim : Aim) (s : Spot) (e : Entry) : Type 0 where
-  pub checked : Checked p ws vs aim s
   pub entry : e ≡ entry_of aim (block.table_of p.block vs)
 
 -- A request that keeps the range rule, to a pair that was checked.
 pub record Ranged (p : Pair) (ws vs : List ℕ) (aim : Aim) (y : Range) (s : Spot) (e : Entry) : Type 0 where
-  pub placed : Placed p ws vs aim s e
+  pub checked : Checked p ws vs aim s e
   pub good : good_range_in (block.arena_of p.block vs) y.base.0 y.limit.0 ≡ true
 
 -- A refusal: the handles given and ranges (0, 0).

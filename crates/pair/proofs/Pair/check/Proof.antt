@@ -50,35 +50,16 @@ returns-2 c =
     let a = told.before.before.before.before.before.args in
     check-table a.self _ _ a.aim (good told) _ arena.arena.ensures _ sound.sound.ensures c.enum-told4.given.1
 
-low-waters-requires : tie.Need-low-waters-requires
-low-waters-requires c κs = search rules
-
-enum-told-5 : tie.Need-enum-told-5
-enum-told-5 c = search rules
-
-enum-told-6 : tie.Need-enum-told-6
-enum-told-6 c = search rules
-
-returns-3 : tie.Need-returns-3
-returns-3 c =
-    let low = c.before.before in
-    let arena = low.before.before.before.before.before in
-    let told = arena.before.before.before in
-    let a = told.before.before.before.before.before.args in
-    check-low a.self _ _ a.aim (good told) _ low.low-waters.ensures c.enum-told6.given.1
-
 divided-requires : tie.Need-divided-requires
 divided-requires c κs =
-    let low = c.before.before in
-    let arena = low.before.before.before.before.before in
+    let arena = c.before.before.before.before in
     let told = arena.before.before.before in
     let a = told.before.before.before.before.before.args in
     check-align a.self _ _ a.aim (good told) _ arena.arena.ensures
 
 aim-of-requires : tie.Need-aim-of-requires
 aim-of-requires c κs =
-    let low = c.before.before.before in
-    let arena = low.before.before.before.before.before in
+    let arena = c.before.before.before.before.before in
     let told = arena.before.before.before in
     let a = told.before.before.before.before.before.args in
     check-positive a.self _ _ a.aim (good told) _ arena.arena.ensures _ c.divided.ensures
@@ -88,51 +69,81 @@ chain-requires c κs = search rules
 
 survey-requires : tie.Need-survey-requires
 survey-requires c κs =
-    let divided = c.before.before in
-    let table = divided.before.before.before.before in
+    let aim = c.before in
+    let divided = aim.before in
+    let table = divided.before in
     let sound = table.before.before in
     let arena = sound.before.before in
     let told = arena.before.before.before in
     let a = told.before.before.before.before.before.args in
     (check-words a.self _ _ a.aim (good told) _ arena.arena.ensures _ divided.divided.ensures, check-rising a.self _ _ a.aim (good told) _ arena.arena.ensures _ sound.sound.ensures table.enum-told3.given.1)
 
-enum-told-7 : tie.Need-enum-told-7
-enum-told-7 c = search rules
-
 enum-known-spot : tie.Need-enum-known-spot
 enum-known-spot c = search rules
 
-returns-4 : tie.Need-returns-4
-returns-4 c =
+enum-told-5 : tie.Need-enum-told-5
+enum-told-5 c = search rules
+
+returns-3 : tie.Need-returns-3
+returns-3 c =
     let survey = c.before.before in
     let chain = survey.before in
     let aim = chain.before in
     let divided = aim.before in
-    let table = divided.before.before.before.before in
+    let table = divided.before in
     let sound = table.before.before in
     let arena = sound.before.before in
     let told = arena.before.before.before in
     let a = told.before.before.before.before.before.args in
     check-walk a.self _ _ a.aim (good told) _ arena.arena.ensures _ sound.sound.ensures table.enum-told3.given.1
-    _ divided.divided.ensures _ aim.aim-of.ensures _ chain.chain.ensures _ survey.survey.ensures c.enum-told7.given.1
+    _ divided.divided.ensures _ aim.aim-of.ensures _ chain.chain.ensures _ survey.survey.ensures c.enum-told5.given.1
+
+low-waters-requires : tie.Need-low-waters-requires
+low-waters-requires c κs = search rules
+
+enum-told-6 : tie.Need-enum-told-6
+enum-told-6 c = search rules
+
+enum-told-7 : tie.Need-enum-told-7
+enum-told-7 c = search rules
+
+returns-4 : tie.Need-returns-4
+returns-4 c =
+    let low = c.before.before in
+    let survey = low.before.before.before.before in
+    let divided = survey.before.before.before in
+    let arena = divided.before.before.before.before.before in
+    let told = arena.before.before.before in
+    let a = told.before.before.before.before.before.args in
+    check-low a.self _ _ a.aim (good told) _ low.low-waters.ensures c.enum-told7.given.1
+
+entry-requires : tie.Need-entry-requires
+entry-requires c κs =
+    let survey = c.before.before.before.before.before.before in
+    let divided = survey.before.before.before in
+    let table = divided.before in
+    let sound = table.before.before in
+    let arena = sound.before.before in
+    let told = arena.before.before.before in
+    let a = told.before.before.before.before.before.args in
+    check-rising a.self _ _ a.aim (good told) _ arena.arena.ensures _ sound.sound.ensures table.enum-told3.given.1
 
 returns-5 : tie.Need-returns-5
 returns-5 c =
-    let spot = c.before in
+    let low = c.before.before.before in
+    let spot = low.before.before in
     let survey = spot.before.before in
     let chain = survey.before in
     let aim = chain.before in
     let divided = aim.before in
-    let lows = divided.before in
-    let low = lows.before.before in
-    let table = low.before in
+    let table = divided.before in
     let sound = table.before.before in
     let arena = sound.before.before in
     let told = arena.before.before.before in
     let a = told.before.before.before.before.before.args in
     check-good a.self _ _ a.aim (good told) _ arena.arena.ensures _ sound.sound.ensures table.enum-told3.given.1
     _ divided.divided.ensures _ aim.aim-of.ensures _ chain.chain.ensures _ survey.survey.ensures
-    (sound-true _ _ low.low-waters.ensures lows.enum-told5.given.1) _ spot.spot.given.1
+    (sound-true _ _ low.low-waters.ensures c.before.enum-told6.given.1) _ spot.spot.given.1 _ c.entry.ensures
 
 pub check-spec : {M : Type 1} → statement M
 check-spec =
@@ -147,15 +158,16 @@ check-spec =
     enum-told-3
     enum-told-4
     returns-2
-    low-waters-requires
-    enum-told-5
-    enum-told-6
-    returns-3
     divided-requires
     aim-of-requires
     chain-requires
     survey-requires
-    enum-told-7
     enum-known-spot
+    enum-told-5
+    returns-3
+    low-waters-requires
+    enum-told-6
+    enum-told-7
     returns-4
+    entry-requires
     returns-5)

@@ -1,6 +1,6 @@
 -- `Pair::delete` meets its contract: 5, 6, and then the places. Assumes nothing.
 use Rattle.pair.specs.Calls.{changed}
-use Rattle.pair.proofs.Calling.{saw-checked, rising, answers-5, answers-6}
+use Rattle.pair.proofs.Calling.{saw-checked, answers-5, answers-6}
 use Rattle.pair.proofs.DeleteAnswers.{is-delete}
 use borrow.Author.Rules.{rules}
 use Rattle.pair.proofs.Pair.delete.Statement.{statement}
@@ -24,16 +24,9 @@ refused-requires-2 c κs = search rules
 enum-known-s : tie.Need-enum-known-s
 enum-known-s c = search rules
 
-reached-requires : tie.Need-reached-requires
-reached-requires c κs =
-    let spot = c.before.before in
-    rising _ _ _ _ _ (saw-checked _ _ _ _ _ spot.before.before.check.ensures _ spot.s.given.1)
-
 delete-at-requires : tie.Need-delete-at-requires
 delete-at-requires c κs =
-    let reached = c.before.before in
-    let spot = reached.before.before.before in
-    record { checked = saw-checked _ _ _ _ _ spot.before.before.check.ensures _ spot.s.given.1; entry = reached.reached.ensures }
+    saw-checked _ _ _ _ _ c.before.before.before.before.before.check.ensures _ _ c.before.before.before.s.given.1
 
 same_length : tie.Need-same-length
 same_length c = search rules
@@ -74,7 +67,6 @@ delete-spec =
     enum-told-2
     refused-requires-2
     enum-known-s
-    reached-requires
     delete-at-requires
     same_length
     same-length-2

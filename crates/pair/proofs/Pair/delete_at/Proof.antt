@@ -9,13 +9,13 @@ use Rattle.pair.proofs.Pair.delete_at.Tie as tie
 arena-requires : tie.Need-arena-requires
 arena-requires c κs = search rules
 
-by-bit-requires : tie.Need-by-bit-requires
-by-bit-requires c κs =
+divided-requires : tie.Need-divided-requires
+divided-requires c κs =
     asked-align _ _ _ c.before.before.before.args.range _ _ c.before.before.before.requires _ c.arena.ensures
 
 check-range-requires : tie.Need-check-range-requires
 check-range-requires c κs =
-    asked-positive _ _ _ c.before.before.before.before.args.range _ _ c.before.before.before.before.requires _ c.before.arena.ensures _ c.by_bit.ensures
+    asked-positive _ _ _ c.before.before.before.before.args.range _ _ c.before.before.before.before.requires _ c.before.arena.ensures _ c.divided.ensures
 
 enum_told : tie.Need-enum-told
 enum_told c = search rules
@@ -25,11 +25,11 @@ refused-requires c κs = search rules
 
 returns : tie.Need-returns
 returns c =
-    asked-4 _ _ _ c.before.before.before.before.before.before.before.args.range _ _ c.before.before.before.before.before.before.before.requires _ c.before.before.before.before.arena.ensures _ c.before.before.before.by_bit.ensures _ c.before.before.check-range.ensures changed _ _ (is-delete _ _ _ c.before.before.before.before.before.before.before.args.range) (λ g. rw g) c.before.match.keys2 _ c.refused.ensures
+    asked-4 _ _ _ c.before.before.before.before.before.before.before.args.range _ _ c.before.before.before.before.before.before.before.requires _ c.before.before.before.before.arena.ensures _ c.before.before.before.divided.ensures _ c.before.before.check-range.ensures changed _ _ (is-delete _ _ _ c.before.before.before.before.before.before.before.args.range) (λ g. rw g) c.before.match.keys2 _ c.refused.ensures
 
 delete-good-requires : tie.Need-delete-good-requires
 delete-good-requires c κs =
-    asked-good _ _ _ c.before.before.before.before.before.before.before.before.before.args.range _ _ c.before.before.before.before.before.before.before.before.before.requires _ c.before.before.before.before.before.before.arena.ensures _ c.before.before.before.before.before.by_bit.ensures _ c.before.before.before.before.check-range.ensures c.before.before.enum_told.given.1
+    asked-good _ _ _ c.before.before.before.before.before.before.before.before.before.args.range _ _ c.before.before.before.before.before.before.before.before.before.requires _ c.before.before.before.before.before.before.arena.ensures _ c.before.before.before.before.before.divided.ensures _ c.before.before.before.before.check-range.ensures c.before.before.enum_told.given.1
 
 same_length : tie.Need-same-length
 same_length c = search rules
@@ -45,7 +45,7 @@ delete-at-spec =
     tie.close
     (tie.spec
     arena-requires
-    by-bit-requires
+    divided-requires
     check-range-requires
     enum_told
     refused-requires

@@ -26,7 +26,7 @@ enum-known-s c = search rules
 find-at-requires : tie.Need-find-at-requires
 find-at-requires c κs =
     let spot = c.before.before.before in
-    saw-checked _ _ _ _ _ spot.before.before.check.ensures _ spot.s.given.1
+    saw-checked _ _ _ _ _ spot.before.before.check.ensures _ _ spot.s.given.1
 
 same_length : tie.Need-same-length
 same_length c = search rules

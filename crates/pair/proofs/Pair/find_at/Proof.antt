@@ -1,33 +1,18 @@
 -- `Pair::find_at` meets its contract: 4, 2, the find in the list, the find in the block land. Assumes nothing.
-use Rattle.pair.specs.inner.Finding.{find_aim}
-use Rattle.pair.specs.inner.Parts.{Placed}
-use Rattle.pair.proofs.Calling.{rising}
-use Rattle.pair.proofs.FindAnswers.{Asked, find-align, find-positive, find-4, find-ready, find-placed, find-ordered, find-2, list-chosen, find-list, block-chosen, find-block}
+use Rattle.pair.proofs.FindAnswers.{Asked, find-align, find-positive, find-4, find-ready, find-ordered, find-2, list-chosen, find-list, block-chosen, find-block}
 use mathlib.Core.Path.{◌∙◌}
 use borrow.Author.Rules.{rules}
 use Rattle.pair.proofs.Pair.find_at.Statement.{statement}
 use Rattle.pair.proofs.Pair.find_at.Tie as tie
 
 -- the size is good
-asked : (k : tie.After-enum-told) → let a = k.before.before.before.before.before.before.before.before.args in Asked a.self a.words.now a.nodes.now a.which a.size a.spot
+asked : (k : tie.After-enum-told) → let a = k.before.before.before.before.before.before.before.before.args in Asked a.self a.words.now a.nodes.now a.which a.size a.spot a.entry
 asked k =
     let check = k.before.before in
     let bit = check.before in
     let arena = bit.before in
     let start = arena.before.before.before.before in
-    find-ready start.args.self _ _ start.args.which start.args.size _ start.requires _ (bit.by_bit.ensures ∙ arena.arena.ensures) _ check.check-find.ensures k.enum_told.given.1
-
--- and the entry that was chosen
-placed : (k : tie.After-found) →
-    let a = k.before.before.before.before.before.before.before.before.before.before.before.args in
-    Placed a.self a.words.now a.nodes.now (find_aim a.self a.which a.size) a.spot k.found.result
-placed k =
-    let told = k.before.before.before in
-    let bit = told.before.before.before in
-    let arena = bit.before in
-    let start = arena.before.before.before.before in
-    find-placed start.args.self _ _ start.args.which start.args.size _ start.requires _ (bit.by_bit.ensures ∙ arena.arena.ensures)
-    (asked told) _ k.before.find-size.ensures _ k.found.ensures
+    find-ready start.args.self _ _ start.args.which start.args.size _ _ start.requires _ (bit.by_bit.ensures ∙ arena.arena.ensures) _ check.check-find.ensures k.enum_told.given.1
 
 arena-requires : tie.Need-arena-requires
 arena-requires c κs = search rules
@@ -35,13 +20,13 @@ arena-requires c κs = search rules
 by-bit-requires : tie.Need-by-bit-requires
 by-bit-requires c κs =
     let start = c.before.before.before.before in
-    find-align start.args.self _ _ start.args.which start.args.size _ start.requires _ c.arena.ensures
+    find-align start.args.self _ _ start.args.which start.args.size _ _ start.requires _ c.arena.ensures
 
 check-find-requires : tie.Need-check-find-requires
 check-find-requires c κs =
     let arena = c.before in
     let start = arena.before.before.before.before in
-    find-positive start.args.self _ _ start.args.which start.args.size _ start.requires _ (c.by_bit.ensures ∙ arena.arena.ensures)
+    find-positive start.args.self _ _ start.args.which start.args.size _ _ start.requires _ (c.by_bit.ensures ∙ arena.arena.ensures)
 
 enum_told : tie.Need-enum-told
 enum_told c = search rules
@@ -55,19 +40,14 @@ returns c =
     let bit = check.before in
     let arena = bit.before in
     let start = arena.before.before.before.before in
-    find-4 start.args.self _ _ start.args.which start.args.size _ start.requires _ (bit.by_bit.ensures ∙ arena.arena.ensures) _ check.check-find.ensures c.before.match.keys2
+    find-4 start.args.self _ _ start.args.which start.args.size _ _ start.requires _ (bit.by_bit.ensures ∙ arena.arena.ensures) _ check.check-find.ensures c.before.match.keys2
     start.args.mode _ c.None-found.ensures
-
-find-size-requires : tie.Need-find-size-requires
-find-size-requires c κs = search rules
-
-found-requires : tie.Need-found-requires
-found-requires c κs = rising _ _ _ _ _ (asked c.before.before).0
 
 choose-side-requires : tie.Need-choose-side-requires
 choose-side-requires c κs =
-    let a = c.before.before.before.before.before.before.before.before.before.before.before.args in
-    find-ordered a.self _ _ a.which a.size a.mode _ _ (placed c)
+    let told = c in
+    let a = told.before.before.before.before.before.before.before.before.args in
+    find-ordered a.self _ _ a.which a.size a.mode _ _ (asked told).0
 
 enum-told-2 : tie.Need-enum-told-2
 enum-told-2 c = search rules
@@ -81,10 +61,9 @@ enum-told-3 c = search rules
 find-in-list-requires : tie.Need-find-in-list-requires
 find-in-list-requires c κs =
     let side = c.before.before.before in
-    let found = side.before in
-    let told = found.before.before.before in
+    let told = side.before in
     let a = told.before.before.before.before.before.before.before.before.args in
-    list-chosen a.self _ _ a.which a.size a.mode _ _ (placed found) (asked told).1 _ side.choose-side.ensures c.before.enum-told3.given.1
+    list-chosen a.self _ _ a.which a.size a.mode _ _ (asked told).0 (asked told).1 _ side.choose-side.ensures c.before.enum-told3.given.1
 
 enum-told-4 : tie.Need-enum-told-4
 enum-told-4 c = search rules
@@ -92,50 +71,40 @@ enum-told-4 c = search rules
 find-in-block-requires : tie.Need-find-in-block-requires
 find-in-block-requires c κs =
     let side = c.before.before.before in
-    let found = side.before in
-    let told = found.before.before.before in
+    let told = side.before in
     let a = told.before.before.before.before.before.before.before.before.args in
-    block-chosen a.self _ _ a.which a.size a.mode _ _ (placed found) (asked told).1 _ side.choose-side.ensures c.before.enum-told4.given.1
-
-same_length : tie.Need-same-length
-same_length c = search rules
+    block-chosen a.self _ _ a.which a.size a.mode _ _ (asked told).0 (asked told).1 _ side.choose-side.ensures c.before.enum-told4.given.1
 
 returns-2 : tie.Need-returns-2
 returns-2 c =
     let side = c.before.before.before in
-    let found = side.before in
-    let told = found.before.before.before in
+    let told = side.before in
     let a = told.before.before.before.before.before.before.before.before.args in
-    find-2 a.self _ _ a.which a.size a.mode _ _ (placed found) (asked told).1 _ side.choose-side.ensures c.before.enum-told2.given.1 _ c.none-found2.ensures
+    find-2 a.self _ _ a.which a.size a.mode _ _ (asked told).0 (asked told).1 _ side.choose-side.ensures c.before.enum-told2.given.1 _ c.none-found2.ensures
+
+same_length : tie.Need-same-length
+same_length c = search rules
+
+returns-3 : tie.Need-returns-3
+returns-3 c =
+    let found = c.before.before in
+    let in_List = found.before.before in
+    let side = in_List.before.before in
+    let told = side.before in
+    let a = told.before.before.before.before.before.before.before.before.args in
+    find-list a.self _ _ a.which a.size a.mode _ _ (asked told).0 (asked told).1 _ side.choose-side.ensures in_List.enum-told3.given.1 _ _ found.find-in-list.ensures
 
 same-length-2 : tie.Need-same-length-2
 same-length-2 c = search rules
 
-same-length-3 : tie.Need-same-length-3
-same-length-3 c = search rules
-
-returns-3 : tie.Need-returns-3
-returns-3 c =
-    let in_List = c.before.before in
-    let taken = in_List.before.before in
-    let side = taken.before.before in
-    let found = side.before in
-    let told = found.before.before.before in
-    let a = told.before.before.before.before.before.before.before.before.args in
-    find-list a.self _ _ a.which a.size a.mode _ _ (placed found) (asked told).1 _ side.choose-side.ensures taken.enum-told3.given.1 _ _ in_List.find-in-list.ensures
-
-same-length-4 : tie.Need-same-length-4
-same-length-4 c = search rules
-
 returns-4 : tie.Need-returns-4
 returns-4 c =
-    let in_block = c.before.before in
-    let taken = in_block.before.before in
-    let side = taken.before.before in
-    let found = side.before in
-    let told = found.before.before.before in
+    let found = c.before.before in
+    let in_block = found.before.before in
+    let side = in_block.before.before in
+    let told = side.before in
     let a = told.before.before.before.before.before.before.before.before.args in
-    find-block a.self _ _ a.which a.size a.mode _ _ (placed found) (asked told).1 _ side.choose-side.ensures taken.enum-told4.given.1 _ _ in_block.find-in-block.ensures
+    find-block a.self _ _ a.which a.size a.mode _ _ (asked told).0 (asked told).1 _ side.choose-side.ensures in_block.enum-told4.given.1 _ _ found.find-in-block.ensures
 
 pub find-at-spec : {M : Type 1} → statement M
 find-at-spec =
@@ -147,8 +116,6 @@ find-at-spec =
     enum_told
     none-found-requires
     returns
-    find-size-requires
-    found-requires
     choose-side-requires
     enum-told-2
     none-found-requires-2
@@ -156,10 +123,8 @@ find-at-spec =
     find-in-list-requires
     enum-told-4
     find-in-block-requires
-    same_length
     returns-2
-    same-length-2
-    same-length-3
+    same_length
     returns-3
-    same-length-4
+    same-length-2
     returns-4)

@@ -1,0 +1,10 @@
+-- `put` meets its contract. Assumes nothing.
+use native.Mathlib.Omega.{arith}
+use lib.ListN.{length-set}
+use Rattle.block_shifts.specs.inner.Shifts.{with_pair}
+use borrow.Author.Rules.{rules}
+use Rattle.block_shifts.proofs.put.Goals as goal
+
+pub returns : goal.returns
+unfolding with_pair
+returns c = rw (c.number-2.ensures, c.number.ensures)

@@ -1,0 +1,10 @@
+-- `above` meets its contract: the range that reaches the address, or the next. Assumes nothing.
+use Rattle.block_words.proofs.Seeking.{places}
+use Rattle.std.proofs.Common.{rules}
+use Rattle.block_words.proofs.seeks.above.Goals as goal
+
+pub returns-then-lt : goal.returns-then-lt
+returns-then-lt c = search places
+
+pub returns : goal.returns
+returns c = search places

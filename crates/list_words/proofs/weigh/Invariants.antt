@@ -1,0 +1,13 @@
+-- `weigh` meets its contract: at each turn what is kept of the rest is what is kept of the whole list. Assumes nothing.
+use Prim.Native.Nat.{◌+◌, ◌-◌}
+use mathlib.Core.Logic.{⊎_elim}
+use Rattle.list_words.proofs.Going.{along-near, along-less}
+use Rattle.list_words.proofs.Weighing.{Weighing, weigh-taken, weigh-left, weighings}
+use borrow.Author.Rules.{rules}
+use Rattle.list_words.proofs.weigh.Given as goal
+
+abbrev pub invariant-loop-arena : goal.invariant-loop-arena
+invariant-loop-arena l = Weighing l.arena l.words l.chain.head.0 l.aim l.prev l.kept l.cur
+
+abbrev pub decreases-loop-arena : goal.decreases-loop-arena
+decreases-loop-arena l = l.arena.limit.0 + 1 - l.cur.low.0

@@ -1,0 +1,10 @@
+-- `Arena::check_largest` meets its contract: each way out is a case of the rule. Assumes nothing.
+use borrow.Author.Rules.{rules}
+use Rattle.units.proofs.Ways.{size-ways}
+use Rattle.units.proofs.rules.Arena.check_largest.Goals as goal
+
+pub returns-then-size-self-ne0 : goal.returns-then-size-self-ne0
+returns-then-size-self-ne0 c = search size-ways
+
+pub returns : goal.returns
+returns c = search size-ways
