@@ -1,0 +1,10 @@
+-- `join::fit_above` meets its contract. Assumes nothing.
+use Rattle.block_edits.proofs.Fitting.{above-none, above-touching, above_apart}
+use borrow.Author.Rules.{rules}
+use Rattle.block_edits.proofs.join.fit_above.Goals as goal
+
+pub returns-then-same : goal.returns-then-same
+returns-then-same c = search above-touching
+
+pub returns : goal.returns
+returns c = search above_apart

@@ -1,0 +1,10 @@
+-- `join::fit_at` meets its contract. Assumes nothing.
+use Rattle.block_edits.proofs.Fitting.{at_none, at-touching, at-apart}
+use borrow.Author.Rules.{rules}
+use Rattle.block_edits.proofs.join.fit_at.Goals as goal
+
+pub returns-then-same : goal.returns-then-same
+returns-then-same c = search at-touching
+
+pub returns : goal.returns
+returns c = search at-apart
