@@ -81,7 +81,7 @@ module _ (h : BlockLand) (ws : List ℕ) (y : Range) (d : Entry) (k : Looked h w
     abbrev Inserts : Changed → Type 0
     Inserts w = (w ≡ changed (inserted h ws y)) × (vs ≡ (inserted h ws y).words)
 
-    put_is : (p ≡ Edit h ws _ d k _ inserts g) × (vs ≡ edited_words (Edit h ws _ d k _ inserts g) inserts.new ws)
+    put_is : (p ≡ Edit h ws (reach_base y) d k _ inserts g) × (vs ≡ edited_words (Edit h ws (reach_base y) d k _ inserts g) inserts.new ws)
     unfolding put_of put_words
     put_is = e
 
@@ -112,7 +112,7 @@ module _ (h : BlockLand) (ws : List ℕ) (y : Range) (d : Entry) (k : Looked h w
     abbrev Deletes : Changed → Type 0
     Deletes w = (w ≡ changed (deleted h ws y)) × (vs ≡ (deleted h ws y).words)
 
-    cut-is : (p ≡ Edit h ws _ d k _ deletes g) × (vs ≡ edited_words (Edit h ws _ d k _ deletes g) deletes.new ws)
+    cut-is : (p ≡ Edit h ws (reach_limit y) d k _ deletes g) × (vs ≡ edited_words (Edit h ws (reach_limit y) d k _ deletes g) deletes.new ws)
     unfolding cut_of cut_words
     cut-is = e
 
