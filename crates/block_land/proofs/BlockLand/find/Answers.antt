@@ -1,0 +1,43 @@
+-- `BlockLand::find` meets its contract: 5, 6, 4, and then the entry chosen. Assumes nothing.
+use mathlib.Core.Path.{◌≡◌, refl}
+use borrow.Author.Rules.{rules}
+use Rattle.units.specs.declared.aims.Aim.{Aim}
+use Rattle.units.proofs.Cases.{set-up-true}
+use Rattle.units.proofs.Taking.{aim-good}
+use Rattle.model.specs.Calls.{find}
+use Rattle.model.proofs.lands.FindAnswers.{find-5, find-6, find-4, find-ready}
+use Rattle.model.proofs.lands.Ways.{good-align, good-positive}
+use Rattle.block_words.specs.Words.{pairs}
+use Rattle.block_words.specs.declared.Entry.{Entry}
+use Rattle.block_words.specs.inner.Surveys.{entry_of}
+use Rattle.block_land.specs.inner.Parts.{Looked}
+use Rattle.block_land.proofs.Land.{block_land}
+use Rattle.block_land.proofs.Ways.{land-damaged, land-rising, land-kept}
+use Rattle.block_land.proofs.BlockLand.find.Goals as goal
+
+pub returns-in_default : goal.returns-in_default
+returns-in_default c =
+    let a = c.args in
+    find-5 block_land _ _ (find a.which a.size.0 a.mode) _ c.set_up.ensures c.in_default.is _ c.none_found.ensures
+
+pub good_arena-arena-requires : goal.good_arena-arena-requires
+good_arena-arena-requires c = search (good-align block_land)
+
+pub check_find-check-requires : goal.check_find-check-requires
+check_find-check-requires c = search (good-positive block_land)
+
+pub returns-in_default-judge : goal.returns-in_default-judge
+returns-in_default-judge c =
+    let a = c.args in
+    find-6 block_land _ _ (find a.which a.size.0 a.mode) (set-up-true _ _ c.set_up.ensures c.in-Good.is)
+    (land-damaged _ _ _ c.set_up.ensures c.in-Good.is _ c.good_arena-arena.ensures _ c.judge.ensures c.in_default-judge.is) _ c.none_found-in_default-judge.ensures
+
+pub returns-in_default-check : goal.returns-in_default-check
+returns-in_default-check c =
+    let a = c.args in
+    find-4 block_land _ _ a.which a.size _ c.good_arena-arena.ensures _ c.check_find-check.ensures _ _ ((let it : let a = c.args in (aim : Aim) (d : Entry) → d ≡ entry_of aim (pairs a.nodes.now a.self.ranges) → Looked a.self a.nodes.now aim d = land-kept _ _ _ c.set_up.ensures c.in-Good.is _ c.good_arena-arena.ensures _ c.judge.ensures c.in-Sound.is in it) Aim.Nothing _ refl)
+    c.in_default-check.not-Good-check a.mode _ c.none_found-in_default-check.ensures
+
+pub found-entry-requires : goal.found-entry-requires
+found-entry-requires c =
+    land-rising _ _ _ c.set_up.ensures c.in-Good.is _ c.good_arena-arena.ensures _ c.judge.ensures c.in-Sound.is

@@ -1,0 +1,14 @@
+-- `BlockLand::open` meets its contract: 5, or the pair words set to 0. Assumes nothing.
+use Rattle.block_land.proofs.Ways.{open-good, open-bad, new-zero}
+use borrow.Author.Rules.{rules}
+use Rattle.block_land.proofs.BlockLand.open.Goals as goal
+
+pub returns-in_default : goal.returns-in_default
+returns-in_default c =
+    open-bad _ _ _ _ _ c.new_land-land.ensures _ c.set_up.ensures c.in_default.is _
+    (new-zero _ _ c.new-zero.ensures c.new.ensures _ c.new_land.ensures)
+
+pub returns : goal.returns
+returns c =
+    open-good _ _ _ _ _ c.new_land-land.ensures _ c.set_up.ensures c.in-Good.is _
+    c.clear.ensures

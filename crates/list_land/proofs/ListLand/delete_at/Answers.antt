@@ -1,0 +1,39 @@
+-- `ListLand::delete_at` meets its contract: 4, 1, and the range taken out. Assumes nothing.
+use mathlib.Core.Bool.{true}
+use mathlib.Core.Path.{◌≡◌}
+use borrow.Author.Rules.{rules}
+use Rattle.model.proofs.Checks.{range-bad, range-good}
+use Rattle.model.proofs.lands.EditAnswers.{edit-4, delete-edits}
+use Rattle.model.specs.Calls.{good_range_in}
+use Rattle.list_land.specs.Layout.{arena_of}
+use Rattle.list_land.proofs.Land.{list_land}
+use Rattle.list_land.proofs.EditAnswers.{delete-asks, delete-1, delete-0}
+use Rattle.list_land.proofs.Requests.{looked-positive, looked-align}
+use Rattle.list_land.specs.inner.Parts.{reach_limit}
+use Rattle.list_land.proofs.ListLand.delete_at.Goals as goal
+
+pub good_arena-arena-requires : goal.good_arena-arena-requires
+good_arena-arena-requires c = search looked-align
+
+pub check_range-requires : goal.check_range-requires
+check_range-requires c = search looked-positive
+
+pub returns-in_default : goal.returns-in_default
+returns-in_default c =
+    let y = c.args.range in
+    edit-4 list_land _ _ (reach_limit y) _ c.requires _ (delete-edits _ _ y.base.0 y.limit.0)
+    (range-bad (arena_of c.args.self) _ c.good_arena-arena.ensures c.args.range _ c.check_range.ensures c.in_default.not-Good)
+    _ c.refused.ensures
+
+pub cut_out-requires-clause-held : goal.cut_out-requires-clause-held
+cut_out-requires-clause-held c = (delete-asks _ _ c.args.range _ c.requires ((let it : let a = c.args in good_range_in (arena_of a.self) a.range.base.0 a.range.limit.0 ≡ true = range-good (arena_of c.args.self) _ c.good_arena-arena.ensures c.args.range _ c.check_range.ensures c.in-Good.is in it)) _ c.good_arena-arena.ensures _ c.chain.ensures).0
+
+pub returns-in_default-cut_out : goal.returns-in_default-cut_out
+returns-in_default-cut_out c =
+    delete-1 _ _ c.args.range _ c.requires ((let it : let a = c.args in good_range_in (arena_of a.self) a.range.base.0 a.range.limit.0 ≡ true = range-good (arena_of c.args.self) _ c.good_arena-arena.ensures c.args.range _ c.check_range.ensures c.in-Good.is in it)) _ c.good_arena-arena.ensures _ c.chain.ensures _ _
+    c.cut_out.ensures c.in_default-cut_out.is _ c.refused-in_default-cut_out.ensures
+
+pub returns : goal.returns
+returns c =
+    delete-0 _ _ c.args.range _ c.requires ((let it : let a = c.args in good_range_in (arena_of a.self) a.range.base.0 a.range.limit.0 ≡ true = range-good (arena_of c.args.self) _ c.good_arena-arena.ensures c.args.range _ c.check_range.ensures c.in-Good.is in it)) _ c.good_arena-arena.ensures _ c.chain.ensures _ _
+    c.cut_out.ensures _ _ c.in-Done.is _ c.close.ensures

@@ -1,0 +1,10 @@
+-- `ListLand::open` meets its contract. Assumes nothing.
+use Rattle.list_land.proofs.Ways.{open-ways}
+use borrow.Author.Rules.{rules}
+use Rattle.list_land.proofs.ListLand.open.Goals as goal
+
+pub returns-in_default : goal.returns-in_default
+returns-in_default c = search open-ways
+
+pub returns : goal.returns
+returns c = search open-ways

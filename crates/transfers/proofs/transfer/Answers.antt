@@ -1,0 +1,52 @@
+-- `transfer` meets its contract: range after range, until none is left or one is refused. Assumes nothing.
+use Prim.Native.Nat.{◌-◌}
+use mathlib.Core.Path.{refl, ◌∙◌}
+use lib.ListN.{length}
+use borrow.Author.Rules.{rules}
+use Rattle.units.proofs.Ways.{said-true, said-false}
+use Rattle.transfers.proofs.Transferring.{Along, start, done}
+use Rattle.transfers.proofs.OneRange.{standing, put-ready, stops-1, stops-3, near, next, less}
+use mathlib.Core.Path.{ap}
+use mathlib.Core.Bool.{not}
+use Rattle.transfers.proofs.transfer.Goals as goal
+
+pub loop-arena-init : goal.loop-arena-init
+loop-arena-init c =
+    start _ _ _ _ _ c.requires _ c.new.ensures _ refl
+
+pub descriptor_at-here-requires : goal.descriptor_at-here-requires
+descriptor_at-here-requires c =
+    let z = said-false _ _ c.is_zero.ensures (ap not c.loop-arena-test.true) in
+    standing _ _ _ _ _ _ _ c.loop-arena.invariant z
+
+pub put_in-requires-clause-sorted : goal.put_in-requires-clause-sorted
+put_in-requires-clause-sorted c = (let z = said-false _ _ c.is_zero.ensures (ap not c.loop-arena-test.true) in
+    put-ready _ _ _ _ _ _ _ c.loop-arena.invariant z _ c.descriptor_at-here.ensures _ c.new-in-loop-arena.ensures).0
+
+pub put_in-requires-clause-base_lt_limit : goal.put_in-requires-clause-base_lt_limit
+put_in-requires-clause-base_lt_limit c = (let z = said-false _ _ c.is_zero.ensures (ap not c.loop-arena-test.true) in
+    put-ready _ _ _ _ _ _ _ c.loop-arena.invariant z _ c.descriptor_at-here.ensures _ c.new-in-loop-arena.ensures).1
+
+pub returns-in-Refused : goal.returns-in-Refused
+returns-in-Refused c =
+    let z = said-false _ _ c.is_zero.ensures (ap not c.loop-arena-test.true) in
+    stops-1 _ _ _ _ _ _ _ c.loop-arena.invariant z _ c.descriptor_at-here.ensures _ c.new-in-loop-arena.ensures _ _ c.put_in.ensures c.in-Refused.is _ c.stopped.ensures
+
+pub returns-in-Full : goal.returns-in-Full
+returns-in-Full c =
+    let z = said-false _ _ c.is_zero.ensures (ap not c.loop-arena-test.true) in
+    stops-3 _ _ _ _ _ _ _ c.loop-arena.invariant z _ c.descriptor_at-here.ensures _ c.new-in-loop-arena.ensures _ _ c.put_in.ensures c.in-Full.is _ c.stopped-in-Full.ensures
+
+pub on-cur-requires : goal.on-cur-requires
+on-cur-requires c =
+    let z = said-false _ _ c.is_zero.ensures (ap not c.loop-arena-test.true) in
+    near _ _ _ _ _ _ _ c.loop-arena.invariant z _ c.descriptor_at-here.ensures _ c.new-in-loop-arena.ensures _ _ c.put_in.ensures
+
+pub loop-arena-preserved : goal.loop-arena-preserved
+loop-arena-preserved c =
+    let z = said-false _ _ c.is_zero.ensures (ap not c.loop-arena-test.true) in
+    next _ _ _ _ _ _ _ c.loop-arena.invariant z _ c.descriptor_at-here.ensures _ c.new-in-loop-arena.ensures _ _ c.put_in.ensures _ _ c.in-Done.is _ c.on-cur.ensures
+
+pub returns : goal.returns
+returns c =
+    done _ _ _ _ _ _ _ c.loop-arena.invariant (said-true _ _ c.is_zero.ensures (ap not c.loop-arena-test.false))
