@@ -10,6 +10,7 @@ use Rattle.block_land.proofs.Land.{block_land}
 use Rattle.block_land.proofs.Requests.{readable, looked-spot, looked-positive, looked-align, sorted, edit-order, edit-order-le}
 use Rattle.block_land.proofs.EditAnswers.{delete-1, delete-3, delete-room, delete-0}
 use borrow.Author.Rules.{rules}
+use Rattle.block_land.specs.inner.Parts.{reach_limit}
 use Rattle.block_land.proofs.BlockLand.delete_at.Goals as goal
 
 pub good_arena-requires : goal.good_arena-requires
@@ -21,18 +22,18 @@ check_range-requires c = search looked-positive
 pub returns-in_default : goal.returns-in_default
 returns-in_default c =
     let y = c.args.range in
-    edit-4 block_land _ _ _ _ c.requires _ (delete-edits _ _ y.base.0 y.limit.0)
+    edit-4 block_land _ _ (reach_limit y) _ c.requires _ (delete-edits _ _ y.base.0 y.limit.0)
     (range-bad (arena_of c.args.self []) _ c.good_arena.ensures c.args.range _ c.check_range.ensures c.in_default.not-Good)
     _ c.refused.ensures
 
 pub cut_out-requires-clause-sorted : goal.cut_out-requires-clause-sorted
-cut_out-requires-clause-sorted c = sorted _ _ (readable _ _ _ _ c.requires)
+cut_out-requires-clause-sorted c = sorted _ _ (readable _ _ (reach_limit c.args.range) _ c.requires)
 
 pub cut_out-requires-clause-base_lt_limit : goal.cut_out-requires-clause-base_lt_limit
 cut_out-requires-clause-base_lt_limit c = edit-order c.args.self [] c.args.range ((let it : good_range_in (arena_of c.args.self []) c.args.range.base.0 c.args.range.limit.0 ≡ true = range-good (arena_of c.args.self []) _ c.good_arena.ensures c.args.range _ c.check_range.ensures c.in-Good.is in it))
 
 pub cut_out-requires-clause-first_reach : goal.cut_out-requires-clause-first_reach
-cut_out-requires-clause-first_reach c = looked-spot _ _ _ _ c.requires
+cut_out-requires-clause-first_reach c = looked-spot _ _ c.args.range.limit _ c.requires
 
 pub size-requires : goal.size-requires
 size-requires c =

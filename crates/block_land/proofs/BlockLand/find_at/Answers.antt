@@ -23,11 +23,11 @@ returns-in-None c =
 pub cut_at-count-requires : goal.cut_at-count-requires
 cut_at-count-requires c =
     let held = find-holding _ _ c.args.which c.args.size c.args.mode _ c.requires.looked c.requires.size_value _ c.is_zero.ensures
-    c.if-is_zero.false _ c.arena.ensures _ c.find_size.ensures c.in_default.not-None _ c.part-part.ensures in (
-      held,
-      find-end _ _ c.args.which c.args.size c.args.mode _ c.requires.looked c.requires.size_value _ c.is_zero.ensures
-          c.if-is_zero.false _ c.arena.ensures _ c.find_size.ensures c.in_default.not-None _ c.part-part.ensures,
-    )
+    c.if-is_zero.false _ c.arena.ensures _ c.find_size.ensures c.in_default.not-None _ c.part-part.ensures in record {
+      holding = held;
+      at_end = find-end _ _ c.args.which c.args.size c.args.mode _ c.requires.looked c.requires.size_value _ c.is_zero.ensures
+          c.if-is_zero.false _ c.arena.ensures _ c.find_size.ensures c.in_default.not-None _ c.part-part.ensures;
+    }
 
 pub size-requires : goal.size-requires
 size-requires c =

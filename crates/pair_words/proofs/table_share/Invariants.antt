@@ -1,0 +1,12 @@
+-- `table_share` meets its contract: at each turn the sum and what is still to come make up the whole. Assumes nothing.
+use Prim.Native.Nat.{◌-◌}
+use Rattle.pair_words.proofs.Sharing.{Adding, adds}
+use borrow.Author.Rules.{rules}
+use native.Mathlib.Omega.{arith}
+use Rattle.pair_words.proofs.table_share.Given as goal
+
+abbrev pub invariant-loop-i : goal.invariant-loop-i
+invariant-loop-i l = Adding l.nodes l.n l.range l.i l.sum
+
+abbrev pub decreases-loop-i : goal.decreases-loop-i
+decreases-loop-i l = l.n - l.i

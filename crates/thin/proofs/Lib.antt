@@ -1,2 +1,0 @@
-pub mod Handle
-pub mod Changing
