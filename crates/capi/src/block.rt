@@ -12,22 +12,19 @@ use crate::modes::Given;
 use block_land::{BlockLand, Changed, Found, Opened};
 use units::{Addr, Aim, Align, Range, Size};
 
-#[unsafe(no_mangle)]
-pub extern "C" fn lg_block_open(base: u64, limit: u64, align: u64, nodes: &mut [u64]) -> Opened
+pub fn lg_block_open(base: u64, limit: u64, align: u64, nodes: &mut [u64]) -> Opened
     ensures { (result ≡ opened_of base limit align nodes.old) × (nodes.new ≡ opened_words base limit align nodes.old) }
 {
     BlockLand::open(Addr::new(base), Addr::new(limit), Align::new(align), nodes)
 }
 
-#[unsafe(no_mangle)]
-pub extern "C" fn lg_block_insert(land: BlockLand, nodes: &mut [u64], range: Range) -> Changed
+pub fn lg_block_insert(land: BlockLand, nodes: &mut [u64], range: Range) -> Changed
     ensures { (result ≡ changed (inserted land nodes.old range)) × (nodes.new ≡ (inserted land nodes.old range).words) }
 {
     land.insert(nodes, range)
 }
 
-#[unsafe(no_mangle)]
-pub extern "C" fn lg_block_delete(land: BlockLand, nodes: &mut [u64], range: Range) -> Changed
+pub fn lg_block_delete(land: BlockLand, nodes: &mut [u64], range: Range) -> Changed
     ensures { (result ≡ changed (deleted land nodes.old range)) × (nodes.new ≡ (deleted land nodes.old range).words) }
 {
     land.delete(nodes, range)
@@ -45,13 +42,7 @@ pub fn refuse(land: BlockLand, nodes: &[u64]) -> Found
     }
 }
 
-#[unsafe(no_mangle)]
-pub extern "C" fn lg_block_find_first(
-    land: BlockLand,
-    nodes: &mut [u64],
-    size: u64,
-    mode: u64,
-) -> Found
+pub fn lg_block_find_first(land: BlockLand, nodes: &mut [u64], size: u64, mode: u64) -> Found
     ensures { (result ≡ found_of (found_by land nodes.old Which.First size mode)) × (nodes.new ≡ (found_by land nodes.old Which.First size mode).words) }
 {
     match modes::mode_of(mode) {
@@ -60,8 +51,7 @@ pub extern "C" fn lg_block_find_first(
     }
 }
 
-#[unsafe(no_mangle)]
-pub extern "C" fn lg_block_walk(land: BlockLand, nodes: &[u64], from: u64) -> Changed
+pub fn lg_block_walk(land: BlockLand, nodes: &[u64], from: u64) -> Changed
     ensures { (result ≡ changed (walked land nodes.now from)) × (nodes.now ≡ (walked land nodes.now from).words) }
 {
     land.walk(nodes, Addr::new(from))

@@ -12,22 +12,19 @@ use crate::modes::Given;
 use list_land::{Changed, Found, ListLand, Opened};
 use units::{Addr, Aim, Align, Range, Size};
 
-#[unsafe(no_mangle)]
-pub extern "C" fn lg_list_open(base: u64, limit: u64, align: u64, words: &[u64]) -> Opened
+pub fn lg_list_open(base: u64, limit: u64, align: u64, words: &[u64]) -> Opened
     ensures { result ≡ opened_of base limit align words.now }
 {
     ListLand::open(Addr::new(base), Addr::new(limit), Align::new(align), words)
 }
 
-#[unsafe(no_mangle)]
-pub extern "C" fn lg_list_insert(land: ListLand, words: &mut [u64], range: Range) -> Changed
+pub fn lg_list_insert(land: ListLand, words: &mut [u64], range: Range) -> Changed
     ensures { (result ≡ changed (inserted land words.old range)) × (words.new ≡ (inserted land words.old range).words) }
 {
     land.insert(words, range)
 }
 
-#[unsafe(no_mangle)]
-pub extern "C" fn lg_list_delete(land: ListLand, words: &mut [u64], range: Range) -> Changed
+pub fn lg_list_delete(land: ListLand, words: &mut [u64], range: Range) -> Changed
     ensures { (result ≡ changed (deleted land words.old range)) × (words.new ≡ (deleted land words.old range).words) }
 {
     land.delete(words, range)
@@ -45,13 +42,7 @@ pub fn refuse(land: ListLand, words: &[u64]) -> Found
     }
 }
 
-#[unsafe(no_mangle)]
-pub extern "C" fn lg_list_find_first(
-    land: ListLand,
-    words: &mut [u64],
-    size: u64,
-    mode: u64,
-) -> Found
+pub fn lg_list_find_first(land: ListLand, words: &mut [u64], size: u64, mode: u64) -> Found
     ensures { (result ≡ found_of (found_by land words.old Which.First size mode)) × (words.new ≡ (found_by land words.old Which.First size mode).words) }
 {
     match modes::mode_of(mode) {
@@ -60,8 +51,7 @@ pub extern "C" fn lg_list_find_first(
     }
 }
 
-#[unsafe(no_mangle)]
-pub extern "C" fn lg_list_walk(land: ListLand, words: &[u64], from: u64) -> Changed
+pub fn lg_list_walk(land: ListLand, words: &[u64], from: u64) -> Changed
     ensures { (result ≡ changed (walked land words.now from)) × (words.now ≡ (walked land words.now from).words) }
 {
     land.walk(words, Addr::new(from))

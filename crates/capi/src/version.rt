@@ -2,8 +2,7 @@
 ghost use Rattle.std.specs.Prelude.{◌≡◌};
 ghost use Rattle.capi.specs.Version.{version};
 
-#[unsafe(no_mangle)]
-pub extern "C" fn lg_version() -> u64
+pub fn lg_version() -> u64
     ensures { result ≡ version }
 {
     2
