@@ -5,8 +5,11 @@ import re
 
 PARTS = ("src", "specs", "proofs")
 
+# The names of which rt ci tries an edit; it tries none in a folder below must-fail.
+NAME = re.compile(r"[A-Za-z0-9_-][A-Za-z0-9_.-]*\.edit")
+
 # A line of a source file that is no code: a contract, what a contract uses, or a comment.
-NO_CODE = re.compile(r"\s*(requires \{|ensures \{|ghost use |//)")
+NO_CODE = re.compile(r"\s*((requires|ensures)\*?( \w+)? \{|ghost |//)")
 
 
 class BadEdit(Exception):
@@ -15,41 +18,24 @@ class BadEdit(Exception):
 
 def crates():
     with open("crates.txt", encoding="utf-8") as file:
-        lines = [line.split("#")[0] for line in file]
-    return [line.split(":")[0].strip() for line in lines if ":" in line]
+        lines = [line.split("#")[0].split(":")[0].split() for line in file]
+    return [words[0] for words in lines if words]
 
 
 def name_of(crate, edit):
     return f"{crate}/{os.path.basename(edit).removesuffix('.edit')}"
 
 
-def edits_in(*folders):
-    folder = os.path.join("crates", *folders)
-    if not os.path.isdir(folder):
-        return []
-    return sorted(os.path.join(folder, name) for name in os.listdir(folder) if name.endswith(".edit"))
-
-
-def by_rt(crate):
+def edits_of(crate):
     """The edits of a crate that rt ci tries."""
-    return edits_in(crate, "must-fail")
-
-
-def further(crate):
-    """The edits of a crate that rt ci does not try."""
-    return edits_in(crate, "must-fail", "more")
+    folder = os.path.join("crates", crate, "must-fail")
+    names = sorted(os.listdir(folder)) if os.path.isdir(folder) else []
+    return [os.path.join(folder, name) for name in names if NAME.fullmatch(name) and os.path.isfile(os.path.join(folder, name))]
 
 
 def strays():
-    """Files that look like edits and that nothing tries: in another folder, of a crate that is not listed, of another name, or
-    of a name that two edits of a crate have."""
-    tried, names, lost = set(), set(), []
-    for crate in crates():
-        for edit in by_rt(crate) + further(crate):
-            tried.add(edit)
-            if name_of(crate, edit) in names:
-                lost.append(edit)
-            names.add(name_of(crate, edit))
+    """Files that look like edits and that nothing tries: in another folder, of a crate that is not listed, or of another name."""
+    tried, lost = {edit for crate in crates() for edit in edits_of(crate)}, []
     for folder, _, files in os.walk("crates"):
         for name in files:
             path = os.path.join(folder, name)
@@ -68,7 +54,7 @@ def pairs_of(edit):
         raise BadEdit("it is no text") from None
     for line in lines:
         if line.startswith("file: "):
-            name = line[len("file: "):]
+            name = line[len("file: "):].strip()
         elif line.startswith("old: "):
             old = line[len("old: "):]
         elif line.startswith("new:"):
@@ -81,12 +67,12 @@ def pairs_of(edit):
     return pairs
 
 
-def edited(top, crate, edit):
-    """The files that an edit changes in a repository, as they were and as they are to be; and whether it changes code."""
+def changes_code(crate, edit):
+    """Whether an edit changes code, and not only a definition or a contract. One that cannot be applied is refused."""
     before, after, code = {}, {}, False
     for name, old, new in pairs_of(edit):
-        place = os.path.normpath(os.path.join(top, "crates", crate, name))
-        if name.split("/")[0] not in PARTS or ".." in name or not os.path.isfile(place):
+        place = os.path.join("crates", crate, name)
+        if name.split("/")[0] not in PARTS or os.path.normpath(name) != name or not os.path.isfile(place):
             raise BadEdit(f"no file {name} of the crate")
         if place not in before:
             with open(place, encoding="utf-8") as file:
@@ -95,7 +81,9 @@ def edited(top, crate, edit):
             raise BadEdit(f"an 'old:' text is in its file {after[place].count(old)} times")
         code = code or name.startswith("src/") and is_code(line_with(after[place], old), old, new)
         after[place] = after[place].replace(old, new)
-    return before, after, code
+    if after == before:
+        raise BadEdit("it changes nothing")
+    return code
 
 
 def line_with(text, part):

@@ -29,9 +29,9 @@ FLAT = {"units::LowWater"}
 # What the header calls the length of a slice.
 LENGTHS = {"words": "n", "nodes": "m"}
 
-USE = re.compile(r"^use (\w+)::(\w+);", re.M)
-STRUCT = re.compile(r"#\[repr\(C\)\]\s*pub struct (\w+)(?:\((\w+)\);|\s*\{([^{}]*)\})")
-FUNCTION = re.compile(r'#\[no_mangle\]\s*pub extern "C" fn (\w+)\(([^()]*)\)\s*->\s*(\w+)')
+USE = re.compile(r"^use (\w+)::(?:(\w+)|\{([^{}]*)\});", re.M)
+STRUCT = re.compile(r"#\[repr\(C\)\]\s*(?:#\[derive\([^()]*\)\]\s*)?pub struct (\w+)(?:\((\w+)\);|\s*\{([^{}]*)\})")
+FUNCTION = re.compile(r'#\[unsafe\(no_mangle\)\]\s*pub extern "C" fn (\w+)\(([^()]*)\)\s*->\s*(\w+)')
 
 
 class Unreadable(Exception):
@@ -127,7 +127,10 @@ def source(place):
     crate = os.path.relpath(place, TOP).split(os.sep)[1]
     with open(place, encoding="utf-8") as file:
         text = re.sub(r"//[^\n]*", "", file.read())
-    scope = {name: f"{crate if owner == 'crate' else owner}::{name}" for owner, name in USE.findall(text)}
+    scope = {}
+    for owner, one, several in USE.findall(text):
+        for name in [one] if one else re.findall(r"\w+", several):
+            scope[name] = f"{crate if owner == 'crate' else owner}::{name}"
     scope.update({name: f"{crate}::{name}" for name, *_ in STRUCT.findall(text)})
     return crate, text, scope
 

@@ -1,9 +1,10 @@
 #!/usr/bin/env python3
-"""Tests that an address, a size and an alignment are three kinds: python3 tests/kinds.py, after rt check.
+"""Tests that an address, a size and an alignment are three kinds: python3 tests/kinds.py
 
-It writes crates over `units` into a temporary folder and builds them there. Each is a line of code with one word changed; the
-line as it should be must be accepted, and every change refused by the compiler for the kind that it expects and the kind that
-it finds. A crate that unwraps a kind outside `units` must be refused as well.
+It writes crates over `units` and `list_land` into a temporary folder and checks them there. Each is a line of code with one word
+changed; the line as it should be must be accepted, and every change refused by the compiler for the kind that it expects and the
+kind that it finds. A crate that unwraps a kind outside `units` must be refused as well. What rt has built of the two libraries
+is taken over, and else proved first.
 
 The last line is 'N passed, M failed'; the exit status is 0 exactly if M is 0.
 """
@@ -13,6 +14,7 @@ import shutil
 import subprocess
 import sys
 import tempfile
+from concurrent.futures import ThreadPoolExecutor
 
 TOP = os.path.dirname(os.path.dirname(os.path.abspath(__file__)))
 
@@ -59,6 +61,10 @@ CASES = [
 ]
 
 
+# The libraries that a case uses.
+OVER = ("units", "list_land")
+
+
 def write(room, place, text):
     place = os.path.join(room, place)
     os.makedirs(os.path.dirname(place), exist_ok=True)
@@ -66,46 +72,59 @@ def write(room, place, text):
         file.write(text)
 
 
+def below(lines):
+    """Of the lines of crates.txt those of the crates that a case stands on."""
+    uses = {line.split(":")[0].split()[0]: line.split(":")[1].split() for line in lines if ":" in line.split("#")[0]}
+    found, left = {}, list(OVER)
+    while left:
+        crate = left.pop()
+        if crate in uses and crate not in found:
+            found[crate] = f"{crate}: {' '.join(uses[crate])}\n"
+            left += uses[crate]
+    return found
+
+
 def lay_out(room):
-    """The crates of the repository as they were proved, and the cases over them."""
-    shutil.copytree(os.path.join(TOP, "crates"), os.path.join(room, "crates"))
-    for part in ("rlib", "stamp"):
-        shutil.copytree(os.path.join(TOP, "target", part), os.path.join(room, "target", part), symlinks=True)
+    """The crates that the cases stand on, as they were built, and the cases over them."""
     with open(os.path.join(TOP, "crates.txt"), encoding="utf-8") as file:
-        lines = file.read()
+        lines = below(file.readlines())
+    for crate in lines:
+        shutil.copytree(os.path.join(TOP, "crates", crate), os.path.join(room, "crates", crate), symlinks=True,
+                        ignore=shutil.ignore_patterns("must-fail", "incremental"))
     for name, returns, line, _ in CASES:
         write(room, f"crates/kind_{name}/src/lib.rt", CODE % (returns, line))
-        lines += f"kind_{name}: units list_land\n"
-    write(room, "crates.txt", lines)
+        lines[name] = f"kind_{name}: {' '.join(OVER)}\n"
+    write(room, "crates.txt", "".join(lines.values()))
 
 
-def judge(room, name, refusal):
-    """What is wrong with a case, or None."""
-    with open(os.path.join(room, "target", "log", f"kind_{name}.out"), encoding="utf-8") as file:
-        said = file.read()
-    accepted = f"rt: kind_{name} proved" in said
+def wrong(room, case):
+    """What is wrong with how rt checks a case, or None."""
+    name, _, _, refusal = case
+    ran = subprocess.run(["rt", "check"], cwd=os.path.join(room, "crates", f"kind_{name}"), stdin=subprocess.DEVNULL,
+                         stdout=subprocess.PIPE, stderr=subprocess.STDOUT, check=False)
+    said = ran.stdout.decode("utf-8", errors="replace")
+    accepted = ran.returncode == 0 and said.rstrip("\n").split("\n")[-1].startswith("logic=proved")
     if refusal is None:
         return None if accepted else "it is refused:\n" + said
     if accepted:
         return "it is NOT refused"
+    if ran.returncode != 1:
+        return f"it is not refused, but rt ended with {ran.returncode}:\n{said}"
     return None if refusal in said else f"it is not refused by '{refusal}':\n{said}"
 
 
 def main():
-    if not os.path.isdir(os.path.join(TOP, "target", "stamp")):
-        print("kinds: nothing is proved yet: run rt check first")
-        print("0 passed, 1 failed")
-        return 1
     failed = 0
     with tempfile.TemporaryDirectory() as room:
         lay_out(room)
-        names = [f"kind_{name}" for name, *_ in CASES]
-        subprocess.run(["rt", "check", *names], cwd=room, stdin=subprocess.DEVNULL, capture_output=True, check=False)
-        for name, _, line, refusal in CASES:
-            wrong = judge(room, name, refusal)
-            failed += wrong is not None
-            says = "accepted" if refusal is None else "refused: " + refusal
-            print(f"kinds: {line}: {says if wrong is None else 'FAILED: ' + wrong}")
+        # The first builds what all of them stand on, where that is not built.
+        found = [wrong(room, CASES[0])]
+        with ThreadPoolExecutor(min(os.cpu_count() or 1, 4)) as pool:
+            found += pool.map(lambda case: wrong(room, case), CASES[1:])
+    for (_, _, line, refusal), fault in zip(CASES, found):
+        failed += fault is not None
+        says = "accepted" if refusal is None else "refused: " + refusal
+        print(f"kinds: {line}: {says if fault is None else 'FAILED: ' + fault}")
     print(f"{len(CASES) - failed} passed, {failed} failed")
     return 1 if failed else 0
 
