@@ -3,7 +3,7 @@ use Prim.Native.Nat.{ℕ, suc, ◌≤◌, ◌<◌}
 use mathlib.Core.Bool.{true}
 use mathlib.Core.List.{List, [], ◌∷◌}
 use mathlib.Core.Option.{Option, none, some}
-use mathlib.Core.Path.{◌≡◌, refl, sym, ◌∙◌}
+use mathlib.Core.Path.{◌≡◌, refl, sym, ◌∙◌, ap, subst, sym, ◌∙◌}
 use native.Mathlib.Omega.{arith}
 use borrow.Author.Tests.{le-leb, lt-leb}
 use lib.Dec.{leb}
@@ -46,7 +46,11 @@ from_some x lo hi [] q h e = none-some e
 from_some x lo hi (r ∷ rs) q h e =
     by (leb x r.base)
     (λ f. let g : r ≡ q = cc in
-    (rw (f, ← g, lt-leb r.limit r.base h.1, from_all x (suc r.limit) hi rs (omega tests) h.3, from_all r.limit (suc r.limit) hi rs (omega arith) h.3), rw (← g) h.0, rw (← g) h.1))
+    let first : from x (r ∷ rs) ≡ r ∷ from x rs = rw f refl in
+    let behind : from r.limit (r ∷ rs) ≡ from r.limit rs = rw (lt-leb r.limit r.base h.1) refl in
+    let all : from x (r ∷ rs) ≡ r ∷ from r.limit (r ∷ rs) =
+    first ∙ ap (λ (ts : List Range). r ∷ ts) (from_all x (suc r.limit) hi rs (omega tests) h.3 ∙ sym (from_all r.limit (suc r.limit) hi rs (omega arith) h.3) ∙ sym behind) in
+    (subst (λ (z : Range). from x (r ∷ rs) ≡ z ∷ from z.limit (r ∷ rs)) g all, rw (← g) h.0, rw (← g) h.1))
     (λ f. let w = from_some x (suc r.limit) hi rs q h.3 (rw f at e) in
     (rw (f, lt-leb q.limit r.base (omega arith)) w.0, omega arith, w.2))
 

@@ -10,10 +10,9 @@ use Rattle.script.proofs.Going.{goes-start, goes_then, closes-all, closes-full}
 use Rattle.script.proofs.Script.feed.Goals as goal
 
 pub loop-fed-preserved : goal.loop-fed-preserved
-loop-fed-preserved c =
+loop-fed-preserved c = (omega arith, goes_then c.loop-fed.invariant.1 c.line-next.ensures.goes, c.if-next.false)
+
+pub returns-then-next-clause-out_after : goal.returns-then-next-clause-out_after
+returns-then-next-clause-out_after c =
     let inv = c.loop-fed.invariant in
-    let line = c.line-next in (
-      omega (arith, line.auto.1.0, inv.0),
-      goes_then inv.1 line.ensures.0,
-      c.if-next.false,
-    )
+    (closes-full _ _ _ _ _ _ _ (goes_then inv.1 c.line-next.ensures.goes) c.loop-fed.out inv.1.size c.if-next.true (c.line-next.ensures.moves.stops c.if-next.true)).buffer
