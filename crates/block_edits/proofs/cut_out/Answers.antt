@@ -15,8 +15,8 @@ returns-then-lt c =
 
 pub returns-then-nodes-after : goal.returns-then-nodes-after
 returns-then-nodes-after c =
-    cut-full _ _ c.args.range _ ((let it : let a = c.args in Holding a.nodes.now a.count a.i a.range = cut-held _ _ c.args.range c.requires.sorted _ c.requires.first_reach c.if-n-i.false _ c.pair_at-here.ensures _ c.lt.ensures c.requires.base_lt_limit c.if-lt.false in it)) _ c.pair_at-here.ensures _ c.left_of-left.ensures c.if-nodes-after.true
+    cut-full _ _ c.args.range _ (cut-held _ _ c.args.range c.requires.sorted _ c.requires.first_reach c.if-n-i.false _ c.pair_at-here.ensures _ c.lt.ensures c.requires.base_lt_limit c.if-lt.false) _ c.pair_at-here.ensures _ c.left_of-left.ensures c.if-nodes-after.true
 
 pub returns : goal.returns
 returns c =
-    cut-done _ _ c.args.range _ ((let it : let a = c.args in Holding a.nodes.now a.count a.i a.range = cut-held _ _ c.args.range c.requires.sorted _ c.requires.first_reach c.if-n-i.false _ c.pair_at-here.ensures _ c.lt.ensures c.requires.base_lt_limit c.if-lt.false in it)) _ c.pair_at-here.ensures _ c.left_of-left.ensures c.if-nodes-after.false _ c.leave.ensures
+    cut-done _ _ c.args.range _ (cut-held _ _ c.args.range c.requires.sorted _ c.requires.first_reach c.if-n-i.false _ c.pair_at-here.ensures _ c.lt.ensures c.requires.base_lt_limit c.if-lt.false) _ c.pair_at-here.ensures _ c.left_of-left.ensures c.if-nodes-after.false _ c.leave.ensures

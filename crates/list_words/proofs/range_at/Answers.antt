@@ -14,13 +14,13 @@ pub returns-then-not-may_begin : goal.returns-then-not-may_begin
 returns-then-not-may_begin c = search steps
 
 pub bounds-words-i : goal.bounds-words-i
-bounds-words-i c = let h = (let it : let v = c.args in Begun v.arena (length v.words.now) v.at.0 = begun c.args.arena _ c.requires.ready _ _ c.requires.base_le_low _ c.may_begin.ensures (ap not c.if-not-may_begin.false) in it) in omega arith
+bounds-words-i c = let h = (begun c.args.arena _ c.requires.ready _ _ c.requires.base_le_low _ c.may_begin.ensures (ap not c.if-not-may_begin.false)) in omega arith
 
 pub plus-end-requires : goal.plus-end-requires
-plus-end-requires c = let h = (let it : let v = c.args in Begun v.arena (length v.words.now) v.at.0 = begun c.args.arena _ c.requires.ready _ _ c.requires.base_le_low _ c.may_begin.ensures (ap not c.if-not-may_begin.false) in it) in omega arith
+plus-end-requires c = let h = (begun c.args.arena _ c.requires.ready _ _ c.requires.base_le_low _ c.may_begin.ensures (ap not c.if-not-may_begin.false)) in omega arith
 
 pub may_end-requires : goal.may_end-requires
-may_end-requires c = ((let it : let v = c.args in Begun v.arena (length v.words.now) v.at.0 = begun c.args.arena _ c.requires.ready _ _ c.requires.base_le_low _ c.may_begin.ensures (ap not c.if-not-may_begin.false) in it)).align
+may_end-requires c = (begun c.args.arena _ c.requires.ready _ _ c.requires.base_le_low _ c.may_begin.ensures (ap not c.if-not-may_begin.false)).align
 
 pub returns-then-not-may_end : goal.returns-then-not-may_end
 returns-then-not-may_end c = search steps
@@ -29,30 +29,30 @@ pub returns-then-is_tagged : goal.returns-then-is_tagged
 returns-then-is_tagged c = search steps
 
 pub plus-least-requires : goal.plus-least-requires
-plus-least-requires c = let h = (let it : let v = c.args in Begun v.arena (length v.words.now) v.at.0 = begun c.args.arena _ c.requires.ready _ _ c.requires.base_le_low _ c.may_begin.ensures (ap not c.if-not-may_begin.false) in it) in omega arith
+plus-least-requires c = let h = (begun c.args.arena _ c.requires.ready _ _ c.requires.base_le_low _ c.may_begin.ensures (ap not c.if-not-may_begin.false)) in omega arith
 
 pub returns-then-lt : goal.returns-then-lt
-returns-then-lt c = let h = (let it : let v = c.args in Begun v.arena (length v.words.now) v.at.0 = begun c.args.arena _ c.requires.ready _ _ c.requires.base_le_low _ c.may_begin.ensures (ap not c.if-not-may_begin.false) in it) in search steps
+returns-then-lt c = let h = (begun c.args.arena _ c.requires.ready _ _ c.requires.base_le_low _ c.may_begin.ensures (ap not c.if-not-may_begin.false)) in search steps
 
 pub bounds-words-i-2 : goal.bounds-words-i-2
-bounds-words-i-2 c = let h = (let it : let v = c.args in Begun v.arena (length v.words.now) v.at.0 = begun c.args.arena _ c.requires.ready _ _ c.requires.base_le_low _ c.may_begin.ensures (ap not c.if-not-may_begin.false) in it) in search second_word
+bounds-words-i-2 c = let h = (begun c.args.arena _ c.requires.ready _ _ c.requires.base_le_low _ c.may_begin.ensures (ap not c.if-not-may_begin.false)) in search second_word
 
 pub returns-then-lt-2 : goal.returns-then-lt-2
 returns-then-lt-2 c =
-    let h = (let it : let v = c.args in Begun v.arena (length v.words.now) v.at.0 = begun c.args.arena _ c.requires.ready _ _ c.requires.base_le_low _ c.may_begin.ensures (ap not c.if-not-may_begin.false) in it) in search steps
+    let h = (begun c.args.arena _ c.requires.ready _ _ c.requires.base_le_low _ c.may_begin.ensures (ap not c.if-not-may_begin.false)) in search steps
 
 pub may_end-requires-2 : goal.may_end-requires-2
 may_end-requires-2 c =
-    ((let it : let v = c.args in Begun v.arena (length v.words.now) v.at.0 = begun c.args.arena _ c.requires.ready _ _ c.requires.base_le_low _ c.may_begin.ensures (ap not c.if-not-may_begin.false) in it)).align
+    (begun c.args.arena _ c.requires.ready _ _ c.requires.base_le_low _ c.may_begin.ensures (ap not c.if-not-may_begin.false)).align
 
 pub returns-then-not-may_end-2 : goal.returns-then-not-may_end-2
 returns-then-not-may_end-2 c =
-    let h = (let it : let v = c.args in Begun v.arena (length v.words.now) v.at.0 = begun c.args.arena _ c.requires.ready _ _ c.requires.base_le_low _ c.may_begin.ensures (ap not c.if-not-may_begin.false) in it) in search steps
+    let h = (begun c.args.arena _ c.requires.ready _ _ c.requires.base_le_low _ c.may_begin.ensures (ap not c.if-not-may_begin.false)) in search steps
 
 pub returns : goal.returns
 returns c =
     step_block _ _ _ _ _ _ _ _ _ c.may_begin.ensures (ap not c.if-not-may_begin.false) c.word_at-i.ensures c.is_tagged.ensures
-    c.if-is_tagged.false ((let it : let v = c.args in Begun v.arena (length v.words.now) v.at.0 = begun c.args.arena _ c.requires.ready _ _ c.requires.base_le_low _ c.may_begin.ensures (ap not c.if-not-may_begin.false) in it)).from _ _ c.new-2.ensures c.plus-least.ensures
+    c.if-is_tagged.false (begun c.args.arena _ c.requires.ready _ _ c.requires.base_le_low _ c.may_begin.ensures (ap not c.if-not-may_begin.false)).from _ _ c.new-2.ensures c.plus-least.ensures
     _ c.new-end.ensures _ c.lt-2.ensures c.if-lt-2.false _ c.may_end-2.ensures (ap not c.if-not-may_end-2.false)
     _ c.untagged-2.ensures
 

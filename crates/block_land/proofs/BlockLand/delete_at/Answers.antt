@@ -30,27 +30,27 @@ pub cut_out-requires-clause-sorted : goal.cut_out-requires-clause-sorted
 cut_out-requires-clause-sorted c = sorted _ _ (readable _ _ (reach_limit c.args.range) _ c.requires)
 
 pub cut_out-requires-clause-base_lt_limit : goal.cut_out-requires-clause-base_lt_limit
-cut_out-requires-clause-base_lt_limit c = edit-order c.args.self [] c.args.range ((let it : good_range_in (arena_of c.args.self []) c.args.range.base.0 c.args.range.limit.0 ≡ true = range-good (arena_of c.args.self []) _ c.good_arena.ensures c.args.range _ c.check_range.ensures c.in-Good.is in it))
+cut_out-requires-clause-base_lt_limit c = edit-order c.args.self [] c.args.range (range-good (arena_of c.args.self []) _ c.good_arena.ensures c.args.range _ c.check_range.ensures c.in-Good.is)
 
 pub cut_out-requires-clause-first_reach : goal.cut_out-requires-clause-first_reach
 cut_out-requires-clause-first_reach c = looked-spot _ _ c.args.range.limit _ c.requires
 
 pub size-requires : goal.size-requires
 size-requires c =
-    edit-order-le c.args.self [] c.args.range ((let it : good_range_in (arena_of c.args.self []) c.args.range.base.0 c.args.range.limit.0 ≡ true = range-good (arena_of c.args.self []) _ c.good_arena.ensures c.args.range _ c.check_range.ensures c.in-Good.is in it))
+    edit-order-le c.args.self [] c.args.range (range-good (arena_of c.args.self []) _ c.good_arena.ensures c.args.range _ c.check_range.ensures c.in-Good.is)
 
 pub minus-bytes-requires : goal.minus-bytes-requires
 minus-bytes-requires c =
-    delete-room _ _ c.args.range _ c.requires ((let it : good_range_in (arena_of c.args.self []) c.args.range.base.0 c.args.range.limit.0 ≡ true = range-good (arena_of c.args.self []) _ c.good_arena.ensures c.args.range _ c.check_range.ensures c.in-Good.is in it)) _ _ c.cut_out.ensures _ _ c.in-Done.is _ c.size.ensures
+    delete-room _ _ c.args.range _ c.requires (range-good (arena_of c.args.self []) _ c.good_arena.ensures c.args.range _ c.check_range.ensures c.in-Good.is) _ _ c.cut_out.ensures _ _ c.in-Done.is _ c.size.ensures
 
 pub returns-in-Refused : goal.returns-in-Refused
 returns-in-Refused c =
-    delete-1 _ _ c.args.range _ c.requires ((let it : good_range_in (arena_of c.args.self []) c.args.range.base.0 c.args.range.limit.0 ≡ true = range-good (arena_of c.args.self []) _ c.good_arena.ensures c.args.range _ c.check_range.ensures c.in-Good.is in it)) _ _ c.cut_out.ensures c.in-Refused.is _ c.refused-in-Refused.ensures
+    delete-1 _ _ c.args.range _ c.requires (range-good (arena_of c.args.self []) _ c.good_arena.ensures c.args.range _ c.check_range.ensures c.in-Good.is) _ _ c.cut_out.ensures c.in-Refused.is _ c.refused-in-Refused.ensures
 
 pub returns-in-Full : goal.returns-in-Full
 returns-in-Full c =
-    delete-3 _ _ c.args.range _ c.requires ((let it : good_range_in (arena_of c.args.self []) c.args.range.base.0 c.args.range.limit.0 ≡ true = range-good (arena_of c.args.self []) _ c.good_arena.ensures c.args.range _ c.check_range.ensures c.in-Good.is in it)) _ _ c.cut_out.ensures c.in-Full.is _ c.refused-in-Full.ensures
+    delete-3 _ _ c.args.range _ c.requires (range-good (arena_of c.args.self []) _ c.good_arena.ensures c.args.range _ c.check_range.ensures c.in-Good.is) _ _ c.cut_out.ensures c.in-Full.is _ c.refused-in-Full.ensures
 
 pub returns-in-Done : goal.returns-in-Done
 returns-in-Done c =
-    delete-0 _ _ c.args.range _ c.requires ((let it : good_range_in (arena_of c.args.self []) c.args.range.base.0 c.args.range.limit.0 ≡ true = range-good (arena_of c.args.self []) _ c.good_arena.ensures c.args.range _ c.check_range.ensures c.in-Good.is in it)) _ _ c.cut_out.ensures _ _ c.in-Done.is _ c.size.ensures _ c.minus-bytes.ensures _ c.close.ensures
+    delete-0 _ _ c.args.range _ c.requires (range-good (arena_of c.args.self []) _ c.good_arena.ensures c.args.range _ c.check_range.ensures c.in-Good.is) _ _ c.cut_out.ensures _ _ c.in-Done.is _ c.size.ensures _ c.minus-bytes.ensures _ c.close.ensures

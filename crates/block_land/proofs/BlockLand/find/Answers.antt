@@ -35,7 +35,7 @@ returns-in_default-judge c =
 pub returns-in_default-check : goal.returns-in_default-check
 returns-in_default-check c =
     let a = c.args in
-    find-4 block_land _ _ a.which a.size _ c.good_arena-arena.ensures _ c.check_find-check.ensures Aim.Nothing _ ((let it : let a = c.args in (aim : Aim) (d : Entry) → d ≡ entry_of aim (pairs a.nodes.now a.self.ranges) → Looked a.self a.nodes.now aim d = land-kept _ _ _ c.set_up.ensures c.in-Good.is _ c.good_arena-arena.ensures _ c.judge.ensures c.in-Sound.is in it) Aim.Nothing _ refl)
+    find-4 block_land _ _ a.which a.size _ c.good_arena-arena.ensures _ c.check_find-check.ensures Aim.Nothing _ ((land-kept _ _ _ c.set_up.ensures c.in-Good.is _ c.good_arena-arena.ensures _ c.judge.ensures c.in-Sound.is) Aim.Nothing _ refl)
     c.in_default-check.not-Good a.mode _ c.none_found-in_default-check.ensures
 
 pub found-entry-requires : goal.found-entry-requires

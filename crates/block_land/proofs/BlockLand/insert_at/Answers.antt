@@ -30,27 +30,27 @@ pub put_at-requires-clause-sorted : goal.put_at-requires-clause-sorted
 put_at-requires-clause-sorted c = sorted _ _ (readable _ _ (reach_base c.args.range) _ c.requires)
 
 pub put_at-requires-clause-base_lt_limit : goal.put_at-requires-clause-base_lt_limit
-put_at-requires-clause-base_lt_limit c = edit-order c.args.self [] c.args.range ((let it : good_range_in (arena_of c.args.self []) c.args.range.base.0 c.args.range.limit.0 ≡ true = range-good (arena_of c.args.self []) _ c.good_arena.ensures c.args.range _ c.check_range.ensures c.in-Good.is in it))
+put_at-requires-clause-base_lt_limit c = edit-order c.args.self [] c.args.range (range-good (arena_of c.args.self []) _ c.good_arena.ensures c.args.range _ c.check_range.ensures c.in-Good.is)
 
 pub put_at-requires-clause-first_reach : goal.put_at-requires-clause-first_reach
 put_at-requires-clause-first_reach c = looked-spot _ _ c.args.range.base _ c.requires
 
 pub size-requires : goal.size-requires
 size-requires c =
-    edit-order-le c.args.self [] c.args.range ((let it : good_range_in (arena_of c.args.self []) c.args.range.base.0 c.args.range.limit.0 ≡ true = range-good (arena_of c.args.self []) _ c.good_arena.ensures c.args.range _ c.check_range.ensures c.in-Good.is in it))
+    edit-order-le c.args.self [] c.args.range (range-good (arena_of c.args.self []) _ c.good_arena.ensures c.args.range _ c.check_range.ensures c.in-Good.is)
 
 pub plus-bytes-requires : goal.plus-bytes-requires
 plus-bytes-requires c =
-    insert-room _ _ c.args.range _ c.requires ((let it : good_range_in (arena_of c.args.self []) c.args.range.base.0 c.args.range.limit.0 ≡ true = range-good (arena_of c.args.self []) _ c.good_arena.ensures c.args.range _ c.check_range.ensures c.in-Good.is in it)) _ c.size.ensures
+    insert-room _ _ c.args.range _ c.requires (range-good (arena_of c.args.self []) _ c.good_arena.ensures c.args.range _ c.check_range.ensures c.in-Good.is) _ c.size.ensures
 
 pub returns-in-Refused : goal.returns-in-Refused
 returns-in-Refused c =
-    insert-1 _ _ c.args.range _ c.requires ((let it : good_range_in (arena_of c.args.self []) c.args.range.base.0 c.args.range.limit.0 ≡ true = range-good (arena_of c.args.self []) _ c.good_arena.ensures c.args.range _ c.check_range.ensures c.in-Good.is in it)) _ _ c.put_at.ensures c.in-Refused.is _ c.refused-in-Refused.ensures
+    insert-1 _ _ c.args.range _ c.requires (range-good (arena_of c.args.self []) _ c.good_arena.ensures c.args.range _ c.check_range.ensures c.in-Good.is) _ _ c.put_at.ensures c.in-Refused.is _ c.refused-in-Refused.ensures
 
 pub returns-in-Full : goal.returns-in-Full
 returns-in-Full c =
-    insert-3 _ _ c.args.range _ c.requires ((let it : good_range_in (arena_of c.args.self []) c.args.range.base.0 c.args.range.limit.0 ≡ true = range-good (arena_of c.args.self []) _ c.good_arena.ensures c.args.range _ c.check_range.ensures c.in-Good.is in it)) _ _ c.put_at.ensures c.in-Full.is _ c.refused-in-Full.ensures
+    insert-3 _ _ c.args.range _ c.requires (range-good (arena_of c.args.self []) _ c.good_arena.ensures c.args.range _ c.check_range.ensures c.in-Good.is) _ _ c.put_at.ensures c.in-Full.is _ c.refused-in-Full.ensures
 
 pub returns-in-Done : goal.returns-in-Done
 returns-in-Done c =
-    insert-0 _ _ c.args.range _ c.requires ((let it : good_range_in (arena_of c.args.self []) c.args.range.base.0 c.args.range.limit.0 ≡ true = range-good (arena_of c.args.self []) _ c.good_arena.ensures c.args.range _ c.check_range.ensures c.in-Good.is in it)) _ _ c.put_at.ensures _ _ c.in-Done.is _ c.size.ensures _ c.plus-bytes.ensures _ c.close.ensures
+    insert-0 _ _ c.args.range _ c.requires (range-good (arena_of c.args.self []) _ c.good_arena.ensures c.args.range _ c.check_range.ensures c.in-Good.is) _ _ c.put_at.ensures _ _ c.in-Done.is _ c.size.ensures _ c.plus-bytes.ensures _ c.close.ensures

@@ -26,14 +26,14 @@ returns-in_default c =
     _ c.refused.ensures
 
 pub cut_out-requires-clause-held : goal.cut_out-requires-clause-held
-cut_out-requires-clause-held c = (delete-asks _ _ c.args.range _ c.requires ((let it : let a = c.args in good_range_in (arena_of a.self) a.range.base.0 a.range.limit.0 ≡ true = range-good (arena_of c.args.self) _ c.good_arena-arena.ensures c.args.range _ c.check_range.ensures c.in-Good.is in it)) _ c.good_arena-arena.ensures _ c.chain.ensures).0
+cut_out-requires-clause-held c = (delete-asks _ _ c.args.range _ c.requires (range-good (arena_of c.args.self) _ c.good_arena-arena.ensures c.args.range _ c.check_range.ensures c.in-Good.is) _ c.good_arena-arena.ensures _ c.chain.ensures).0
 
 pub returns-in_default-cut_out : goal.returns-in_default-cut_out
 returns-in_default-cut_out c =
-    delete-1 _ _ c.args.range _ c.requires ((let it : let a = c.args in good_range_in (arena_of a.self) a.range.base.0 a.range.limit.0 ≡ true = range-good (arena_of c.args.self) _ c.good_arena-arena.ensures c.args.range _ c.check_range.ensures c.in-Good.is in it)) _ c.good_arena-arena.ensures _ c.chain.ensures _ _
+    delete-1 _ _ c.args.range _ c.requires (range-good (arena_of c.args.self) _ c.good_arena-arena.ensures c.args.range _ c.check_range.ensures c.in-Good.is) _ c.good_arena-arena.ensures _ c.chain.ensures _ _
     c.cut_out.ensures c.in_default-cut_out.is _ c.refused-in_default-cut_out.ensures
 
 pub returns : goal.returns
 returns c =
-    delete-0 _ _ c.args.range _ c.requires ((let it : let a = c.args in good_range_in (arena_of a.self) a.range.base.0 a.range.limit.0 ≡ true = range-good (arena_of c.args.self) _ c.good_arena-arena.ensures c.args.range _ c.check_range.ensures c.in-Good.is in it)) _ c.good_arena-arena.ensures _ c.chain.ensures _ _
+    delete-0 _ _ c.args.range _ c.requires (range-good (arena_of c.args.self) _ c.good_arena-arena.ensures c.args.range _ c.check_range.ensures c.in-Good.is) _ c.good_arena-arena.ensures _ c.chain.ensures _ _
     c.cut_out.ensures _ _ c.in-Done.is _ c.close.ensures

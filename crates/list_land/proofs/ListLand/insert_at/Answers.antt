@@ -26,14 +26,14 @@ returns-in_default c =
     _ c.refused.ensures
 
 pub put_at-requires-clause-held : goal.put_at-requires-clause-held
-put_at-requires-clause-held c = (insert-asks _ _ c.args.range _ c.requires ((let it : let a = c.args in good_range_in (arena_of a.self) a.range.base.0 a.range.limit.0 ≡ true = range-good (arena_of c.args.self) _ c.good_arena-arena.ensures c.args.range _ c.check_range.ensures c.in-Good.is in it)) _ c.good_arena-arena.ensures _ c.chain.ensures).0
+put_at-requires-clause-held c = (insert-asks _ _ c.args.range _ c.requires (range-good (arena_of c.args.self) _ c.good_arena-arena.ensures c.args.range _ c.check_range.ensures c.in-Good.is) _ c.good_arena-arena.ensures _ c.chain.ensures).0
 
 pub returns-in_default-put_at : goal.returns-in_default-put_at
 returns-in_default-put_at c =
-    insert-1 _ _ c.args.range _ c.requires ((let it : let a = c.args in good_range_in (arena_of a.self) a.range.base.0 a.range.limit.0 ≡ true = range-good (arena_of c.args.self) _ c.good_arena-arena.ensures c.args.range _ c.check_range.ensures c.in-Good.is in it)) _ c.good_arena-arena.ensures _ c.chain.ensures _ _
+    insert-1 _ _ c.args.range _ c.requires (range-good (arena_of c.args.self) _ c.good_arena-arena.ensures c.args.range _ c.check_range.ensures c.in-Good.is) _ c.good_arena-arena.ensures _ c.chain.ensures _ _
     c.put_at.ensures c.in_default-put_at.is _ c.refused-in_default-put_at.ensures
 
 pub returns : goal.returns
 returns c =
-    insert-0 _ _ c.args.range _ c.requires ((let it : let a = c.args in good_range_in (arena_of a.self) a.range.base.0 a.range.limit.0 ≡ true = range-good (arena_of c.args.self) _ c.good_arena-arena.ensures c.args.range _ c.check_range.ensures c.in-Good.is in it)) _ c.good_arena-arena.ensures _ c.chain.ensures _ _
+    insert-0 _ _ c.args.range _ c.requires (range-good (arena_of c.args.self) _ c.good_arena-arena.ensures c.args.range _ c.check_range.ensures c.in-Good.is) _ c.good_arena-arena.ensures _ c.chain.ensures _ _
     c.put_at.ensures _ _ c.in-Done.is _ c.close.ensures
