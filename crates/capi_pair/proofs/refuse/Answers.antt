@@ -1,0 +1,7 @@
+-- `refuse` meets its contract. Assumes nothing.
+use Rattle.capi_pair.proofs.PairRefusing.{refused-mode}
+use borrow.Author.Rules.{rules}
+use Rattle.capi_pair.proofs.refuse.Goals as goal
+
+pub returns : goal.returns
+returns c = refused-mode _ _ _ _ _ _ _ _ c.check.ensures c.mode_answer.ensures c.none.ensures c.none-2.ensures
