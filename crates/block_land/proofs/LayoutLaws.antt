@@ -7,7 +7,6 @@ use native.Mathlib.Omega.{arith}
 use lib.ListN.{length, drop, length-drop}
 use lib.Seq.{get_or-drop}
 use borrow.Author.Tests.{eq-eqb, le-leb, leb-true}
-use Rattle.units.specs.LowWater.{sound_low}
 use Rattle.units.specs.declared.Size.{Size}
 use Rattle.units.specs.declared.low_water.LowWater.{LowWater}
 use Rattle.units.proofs.LowWaters.{noted-same, sound-noted}

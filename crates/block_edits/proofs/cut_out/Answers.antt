@@ -1,7 +1,5 @@
 -- `cut_out` meets its contract. Assumes nothing.
-use Rattle.block_edits.specs.inner.Places.{Holding}
-use Rattle.block_edits.proofs.CutAnswers.{cut-behind, cut_below, cut-held, cut-full, cut-ready, cut-done}
-use borrow.Author.Rules.{rules}
+use Rattle.block_edits.proofs.CutAnswers.{cut-behind, cut_below, cut-held, cut-full, cut-done}
 use Rattle.block_edits.proofs.cut_out.Goals as goal
 
 pub returns-then-n-i : goal.returns-then-n-i

@@ -1,6 +1,5 @@
 -- `join_at` meets its contract: how the range fits, and the range put in. Assumes nothing.
 use Rattle.block_edits.proofs.PutAnswers.{join-ready, join-done}
-use borrow.Author.Rules.{rules}
 use Rattle.block_edits.proofs.join_at.Goals as goal
 
 pub fit_in-requires-clause-joining : goal.fit_in-requires-clause-joining

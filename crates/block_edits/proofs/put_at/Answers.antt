@@ -1,6 +1,5 @@
 -- `put_at` meets its contract: refused, no room, and the range put in. Assumes nothing.
 use Rattle.block_edits.proofs.PutAnswers.{put-overlap, put-ready, put-done}
-use borrow.Author.Rules.{rules}
 use Rattle.block_edits.proofs.put_at.Goals as goal
 
 pub returns-then-fit : goal.returns-then-fit

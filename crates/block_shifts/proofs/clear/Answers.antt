@@ -1,9 +1,7 @@
 -- `clear` meets its contract: the pairs are set to 0 from the last down. Assumes nothing.
 use mathlib.Core.Path.{refl}
 use native.Mathlib.Omega.{arith}
-use lib.ListN.{length-set}
-use borrow.Author.Rules.{rules}
-use Rattle.block_shifts.proofs.Clearing.{Clearing, clear-start, clear_next, clear-done}
+use Rattle.block_shifts.proofs.Clearing.{clear-start, clear_next, clear-done}
 use Rattle.block_shifts.proofs.clear.Goals as goal
 
 pub loop-i-init : goal.loop-i-init

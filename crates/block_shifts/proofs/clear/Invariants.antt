@@ -1,9 +1,5 @@
 -- `clear` meets its contract: the pairs are set to 0 from the last down. Assumes nothing.
-use mathlib.Core.Path.{refl}
-use native.Mathlib.Omega.{arith}
-use lib.ListN.{length-set}
-use borrow.Author.Rules.{rules}
-use Rattle.block_shifts.proofs.Clearing.{Clearing, clear-start, clear_next, clear-done}
+use Rattle.block_shifts.proofs.Clearing.{Clearing}
 use Rattle.block_shifts.proofs.clear.Given as goal
 
 abbrev pub invariant-loop-i : goal.invariant-loop-i

@@ -1,7 +1,5 @@
 -- `insert_pair` meets its contract. Assumes nothing.
-use native.Mathlib.Omega.{arith}
-use borrow.Author.Rules.{rules}
-use Rattle.block_shifts.proofs.Shifting.{Raising, raise-start, raise-next, raise-done}
+use Rattle.block_shifts.proofs.Shifting.{raise-start, raise-next, raise-done}
 use Rattle.block_shifts.proofs.insert_pair.Goals as goal
 
 pub loop-k-init : goal.loop-k-init

@@ -1,7 +1,5 @@
 -- `insert_pair` meets its contract. Assumes nothing.
-use native.Mathlib.Omega.{arith}
-use borrow.Author.Rules.{rules}
-use Rattle.block_shifts.proofs.Shifting.{Raising, raise-start, raise-next, raise-done}
+use Rattle.block_shifts.proofs.Shifting.{Raising}
 use Rattle.block_shifts.proofs.insert_pair.Given as goal
 
 abbrev pub invariant-loop-k : goal.invariant-loop-k

@@ -1,8 +1,5 @@
 -- `put` meets its contract. Assumes nothing.
-use native.Mathlib.Omega.{arith}
-use lib.ListN.{length-set}
 use Rattle.block_shifts.specs.inner.Shifts.{with_pair}
-use borrow.Author.Rules.{rules}
 use Rattle.block_shifts.proofs.put.Goals as goal
 
 pub returns : goal.returns

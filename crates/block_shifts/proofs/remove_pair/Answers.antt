@@ -1,8 +1,5 @@
 -- `remove_pair` meets its contract. Assumes nothing.
-use Prim.Native.Nat.{◌-◌}
-use native.Mathlib.Omega.{arith}
-use borrow.Author.Rules.{rules}
-use Rattle.block_shifts.proofs.Shifting.{Lowering, lower-start, lower-next, lower-done}
+use Rattle.block_shifts.proofs.Shifting.{lower-start, lower-next, lower-done}
 use Rattle.block_shifts.proofs.remove_pair.Goals as goal
 
 pub loop-k-init : goal.loop-k-init

@@ -1,6 +1,5 @@
 -- `is_zero` meets its contract: at each turn the words OR-ed and those from there on decide. Assumes nothing.
-use Rattle.std.proofs.Common.{◌-◌, arith}
-use Rattle.block_words.proofs.Zeros.{Zeros, zero-ways}
+use Rattle.block_words.proofs.Zeros.{zero-ways}
 use Rattle.block_words.proofs.is_zero.Goals as goal
 
 pub loop-i-init : goal.loop-i-init

@@ -1,6 +1,6 @@
 -- `is_zero` meets its contract: at each turn the words OR-ed and those from there on decide. Assumes nothing.
-use Rattle.std.proofs.Common.{◌-◌, arith}
-use Rattle.block_words.proofs.Zeros.{Zeros, zero-ways}
+use Rattle.std.proofs.Common.{◌-◌}
+use Rattle.block_words.proofs.Zeros.{Zeros}
 use Rattle.block_words.proofs.is_zero.Given as goal
 
 abbrev pub invariant-loop-i : goal.invariant-loop-i

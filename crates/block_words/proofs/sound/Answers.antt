@@ -1,6 +1,5 @@
 -- `sound` meets its contract: the zeros behind the pairs, then the pairs. Assumes nothing.
 use Rattle.block_words.proofs.Surveying.{sounds}
-use Rattle.std.proofs.Common.{rules}
 use Rattle.block_words.proofs.sound.Goals as goal
 
 pub returns-in_default : goal.returns-in_default

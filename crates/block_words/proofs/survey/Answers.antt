@@ -1,6 +1,5 @@
 -- `survey` meets its contract: the table is judged, then what is kept of it is read. Assumes nothing.
 use Rattle.block_words.proofs.Surveying.{surveys}
-use Rattle.std.proofs.Common.{rules}
 use Rattle.block_words.proofs.survey.Goals as goal
 
 pub returns-in_default : goal.returns-in_default

@@ -1,6 +1,5 @@
 -- `cut_out` meets its contract: refused, and the range taken out. Assumes nothing.
 use Rattle.list_edits.proofs.Removing.{out-behind, out-before, out-holding, out-done}
-use borrow.Author.Rules.{rules}
 use Rattle.list_edits.proofs.cut_out.Goals as goal
 
 pub returns-then-is_zero : goal.returns-then-is_zero

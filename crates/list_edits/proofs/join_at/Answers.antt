@@ -1,6 +1,5 @@
 -- `join_at` meets its contract: the place of the range, and the range put in. Assumes nothing.
 use Rattle.list_edits.proofs.EditWays.{put-placing, join-putting, join-done}
-use borrow.Author.Rules.{rules}
 use Rattle.list_edits.proofs.join_at.Goals as goal
 
 pub place-place-requires : goal.place-place-requires

@@ -1,6 +1,5 @@
 -- `overlaps_at` meets its contract: none that reaches the base, or the place of the range. Assumes nothing.
 use Rattle.list_edits.proofs.EditWays.{put-placing, at_none, at_place}
-use borrow.Author.Rules.{rules}
 use Rattle.list_edits.proofs.overlaps_at.Goals as goal
 
 pub returns-then-is_zero : goal.returns-then-is_zero

@@ -1,6 +1,5 @@
 -- `put_at` meets its contract: refused, and the range put in. Assumes nothing.
 use Rattle.list_edits.proofs.EditWays.{put-placing, put_refused, put-putting, put-done}
-use borrow.Author.Rules.{rules}
 use Rattle.list_edits.proofs.put_at.Goals as goal
 
 pub place-place-requires : goal.place-place-requires

@@ -1,6 +1,5 @@
 -- `store` meets its contract: two pieces, and the link to the first of them. Assumes nothing.
-use Rattle.list_edits.proofs.Writing.{low-room, store-first, prev-room, store-linked}
-use borrow.Author.Rules.{rules}
+use Rattle.list_edits.proofs.Writing.{store-first, store-linked}
 use Rattle.list_edits.proofs.store.Goals as goal
 
 pub returns-then-is_zero : goal.returns-then-is_zero

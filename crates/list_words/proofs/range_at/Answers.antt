@@ -1,8 +1,6 @@
 -- `range_at` meets its contract: each way out is a case of what the words say at an address. Assumes nothing.
 use native.Mathlib.Omega.{arith}
-use lib.ListN.{length}
-use Rattle.list_words.proofs.Stepping.{Begun, begun, placed, second_word, step_block, steps}
-use borrow.Author.Rules.{rules}
+use Rattle.list_words.proofs.Stepping.{begun, placed, second_word, step_block, steps}
 use mathlib.Core.Path.{ap}
 use mathlib.Core.Bool.{not}
 use Rattle.list_words.proofs.range_at.Goals as goal

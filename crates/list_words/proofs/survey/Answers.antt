@@ -1,6 +1,5 @@
 -- `survey` meets its contract: what was sought, and the walk on from there. Assumes nothing.
 use Rattle.list_words.proofs.Surveying.{surveys}
-use borrow.Author.Rules.{rules}
 use Rattle.list_words.proofs.survey.Goals as goal
 
 pub returns-in_default : goal.returns-in_default

@@ -1,9 +1,6 @@
 -- `weigh` meets its contract: at each turn what is kept of the rest is what is kept of the whole list. Assumes nothing.
-use Prim.Native.Nat.{◌+◌, ◌-◌}
-use mathlib.Core.Logic.{⊎_elim}
 use Rattle.list_words.proofs.Going.{along-near, along-less}
-use Rattle.list_words.proofs.Weighing.{Weighing, weigh-taken, weigh-left, weighings}
-use borrow.Author.Rules.{rules}
+use Rattle.list_words.proofs.Weighing.{weigh-taken, weigh-left, weighings}
 use mathlib.Core.Path.{ap}
 use mathlib.Core.Bool.{not}
 use Rattle.list_words.proofs.weigh.Goals as goal
@@ -31,12 +28,12 @@ loop-arena-smaller c =
 pub loop-arena-preserved : goal.loop-arena-preserved
 loop-arena-preserved c =
     elim c.if-takes.branch [
-      then-takes w ↦ weigh-taken _ _ c.requires c.args.chain _ _ _ _ c.loop-arena.invariant
-      _ c.is_zero.ensures (ap not c.loop-arena-test.true) _ c.range_at.ensures _ _ c.in-Found.is
-      _ c.new-here.ensures _ c.takes.ensures _ c.on-cur.ensures w.if-takes.true _ w.kept-is
-    | else-takes w ↦ weigh-left _ _ c.requires c.args.chain _ _ _ _ c.loop-arena.invariant
-      _ c.is_zero.ensures (ap not c.loop-arena-test.true) _ c.range_at.ensures _ _ c.in-Found.is
-      _ c.new-here.ensures _ c.takes.ensures _ c.on-cur.ensures w.if-takes.false _ w.kept-is
+      | then-takes w ↦ weigh-taken _ _ c.requires c.args.chain _ _ _ _ c.loop-arena.invariant
+          _ c.is_zero.ensures (ap not c.loop-arena-test.true) _ c.range_at.ensures _ _ c.in-Found.is
+          _ c.new-here.ensures _ c.takes.ensures _ c.on-cur.ensures w.if-takes.true _ w.kept-is
+      | else-takes w ↦ weigh-left _ _ c.requires c.args.chain _ _ _ _ c.loop-arena.invariant
+          _ c.is_zero.ensures (ap not c.loop-arena-test.true) _ c.range_at.ensures _ _ c.in-Found.is
+          _ c.new-here.ensures _ c.takes.ensures _ c.on-cur.ensures w.if-takes.false _ w.kept-is
     ]
 
 pub returns-in_default-counts : goal.returns-in_default-counts

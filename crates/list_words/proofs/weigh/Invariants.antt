@@ -1,9 +1,6 @@
 -- `weigh` meets its contract: at each turn what is kept of the rest is what is kept of the whole list. Assumes nothing.
 use Prim.Native.Nat.{◌+◌, ◌-◌}
-use mathlib.Core.Logic.{⊎_elim}
-use Rattle.list_words.proofs.Going.{along-near, along-less}
-use Rattle.list_words.proofs.Weighing.{Weighing, weigh-taken, weigh-left, weighings}
-use borrow.Author.Rules.{rules}
+use Rattle.list_words.proofs.Weighing.{Weighing}
 use Rattle.list_words.proofs.weigh.Given as goal
 
 abbrev pub invariant-loop-arena : goal.invariant-loop-arena

@@ -1,7 +1,7 @@
 -- The ways out of the inner functions that every land has: a refusal, the set-up, the look; and that every call is right. Assumes nothing.
 use Prim.Native.Nat.{ℕ, ◌≤◌, ◌<◌}
 use mathlib.Core.Bool.{true, false, cond, and-true, and-false}
-use mathlib.Core.List.{List, [], ◌∷◌}
+use mathlib.Core.List.{List}
 use mathlib.Core.Path.{◌≡◌, sym, ap, ◌∙◌}
 use Rattle.units.specs.Rules.{good_align, good_arena}
 use Rattle.units.specs.Words.{range_of}

@@ -1,6 +1,6 @@
 -- `places` meets its contract: each turn takes one digit. Assumes nothing.
 use native.Mathlib.Omega.{arith}
-use Rattle.texts.proofs.Spelling.{Counting, count-start, count-few, count_next, count-done}
+use Rattle.texts.proofs.Spelling.{count-start, count-few}
 use Rattle.texts.proofs.places.Goals as goal
 
 pub loop-left-init : goal.loop-left-init

@@ -1,6 +1,5 @@
 -- `places` meets its contract: each turn takes one digit. Assumes nothing.
-use native.Mathlib.Omega.{arith}
-use Rattle.texts.proofs.Spelling.{Counting, count-start, count-few, count_next, count-done}
+use Rattle.texts.proofs.Spelling.{Counting}
 use Rattle.texts.proofs.places.Given as goal
 
 abbrev pub invariant-loop-left : goal.invariant-loop-left

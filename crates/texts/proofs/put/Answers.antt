@@ -1,10 +1,8 @@
 -- `put` meets its contract: each turn of the loop writes one digit. Assumes nothing.
 use mathlib.Core.Path.{refl}
 use native.Mathlib.Omega.{arith}
-use lib.ListN.{length-set}
-use borrow.Author.Rules.{rules}
 use Rattle.texts.proofs.Decimal.{decimal-most}
-use Rattle.texts.proofs.Putting.{Putting, put-start, put_next, put-done}
+use Rattle.texts.proofs.Putting.{put-start, put_next, put-done}
 use Rattle.texts.proofs.put.Goals as goal
 
 pub overflow_add-next : goal.overflow_add-next

@@ -1,10 +1,5 @@
 -- `put` meets its contract: each turn of the loop writes one digit. Assumes nothing.
-use mathlib.Core.Path.{refl}
-use native.Mathlib.Omega.{arith}
-use lib.ListN.{length-set}
-use borrow.Author.Rules.{rules}
-use Rattle.texts.proofs.Decimal.{decimal-most}
-use Rattle.texts.proofs.Putting.{Putting, put-start, put_next, put-done}
+use Rattle.texts.proofs.Putting.{Putting}
 use Rattle.texts.proofs.put.Given as goal
 
 abbrev pub invariant-loop-rest : goal.invariant-loop-rest

@@ -1,6 +1,4 @@
-
 use mathlib.Core.List.{[], ◌∷◌}
-use borrow.Author.Rules.{rules}
 use Rattle.texts.proofs.Writing.{wrote-line}
 use Rattle.texts.proofs.put_four.Goals as goal
 

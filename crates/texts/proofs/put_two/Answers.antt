@@ -1,6 +1,4 @@
-
 use mathlib.Core.List.{[]}
-use borrow.Author.Rules.{rules}
 use Rattle.texts.proofs.Writing.{wrote-last, wrote-line}
 use Rattle.texts.proofs.put_two.Goals as goal
 

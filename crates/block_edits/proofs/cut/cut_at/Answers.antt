@@ -1,6 +1,5 @@
 -- `cut::cut_at` meets its contract: what is left below the part, above it, or nothing. Assumes nothing.
 use Rattle.block_edits.proofs.CutEnds.{left_below, left-above, left-nothing}
-use borrow.Author.Rules.{rules}
 use Rattle.block_edits.proofs.cut.cut_at.Goals as goal
 
 pub returns-then-lt : goal.returns-then-lt

@@ -1,7 +1,5 @@
 -- `cut::leave` meets its contract. Assumes nothing.
-use native.Mathlib.Omega.{arith}
-use Rattle.block_edits.proofs.Replacing.{leave_room, leave-both, leave_low, leave-high, leave-nothing}
-use borrow.Author.Rules.{rules}
+use Rattle.block_edits.proofs.Replacing.{leave-both, leave_low, leave-high}
 use Rattle.block_edits.proofs.cut.leave.Goals as goal
 
 pub returns-then-lt-2 : goal.returns-then-lt-2

@@ -1,6 +1,5 @@
 -- `join::fit_above` meets its contract. Assumes nothing.
-use Rattle.block_edits.proofs.Fitting.{above-none, above-touching, above_apart}
-use borrow.Author.Rules.{rules}
+use Rattle.block_edits.proofs.Fitting.{above-touching, above_apart}
 use Rattle.block_edits.proofs.join.fit_above.Goals as goal
 
 pub returns-then-same : goal.returns-then-same

@@ -1,6 +1,5 @@
 -- `join::fit_at` meets its contract. Assumes nothing.
-use Rattle.block_edits.proofs.Fitting.{at_none, at-touching, at-apart}
-use borrow.Author.Rules.{rules}
+use Rattle.block_edits.proofs.Fitting.{at-touching, at-apart}
 use Rattle.block_edits.proofs.join.fit_at.Goals as goal
 
 pub returns-then-same : goal.returns-then-same

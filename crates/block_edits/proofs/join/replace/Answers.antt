@@ -1,6 +1,5 @@
 -- `join::replace` meets its contract. Assumes nothing.
-use Rattle.block_edits.proofs.Replacing.{replace-none, replace-one, replace-two}
-use borrow.Author.Rules.{rules}
+use Rattle.block_edits.proofs.Replacing.{replace-one, replace-two}
 use Rattle.block_edits.proofs.join.replace.Goals as goal
 
 pub returns-then-joins-eq1 : goal.returns-then-joins-eq1

@@ -1,16 +1,10 @@
 -- `BlockLand::find` meets its contract: 5, 6, 4, and then the entry chosen. Assumes nothing.
-use mathlib.Core.Path.{◌≡◌, refl}
-use borrow.Author.Rules.{rules}
+use mathlib.Core.Path.{refl}
 use Rattle.units.specs.declared.aims.Aim.{Aim}
 use Rattle.units.proofs.Cases.{set-up-true}
-use Rattle.units.proofs.Taking.{aim-good}
 use Rattle.model.specs.Calls.{find}
-use Rattle.model.proofs.lands.FindAnswers.{find-5, find-6, find-4, find-ready}
+use Rattle.model.proofs.lands.FindAnswers.{find-5, find-6, find-4}
 use Rattle.model.proofs.lands.Ways.{good-align, good-positive}
-use Rattle.block_words.specs.Words.{pairs}
-use Rattle.block_words.specs.declared.Entry.{Entry}
-use Rattle.block_words.specs.inner.Surveys.{entry_of}
-use Rattle.block_land.specs.inner.Parts.{Looked}
 use Rattle.block_land.proofs.Land.{block_land}
 use Rattle.block_land.proofs.Ways.{land-damaged, land-rising, land-kept}
 use Rattle.block_land.proofs.BlockLand.find.Goals as goal

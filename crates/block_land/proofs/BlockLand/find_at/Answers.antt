@@ -1,5 +1,4 @@
 -- `BlockLand::find_at` meets its contract: 2, the range as it stands, and a part of it taken out. Assumes nothing.
-use borrow.Author.Rules.{rules}
 use Rattle.model.proofs.lands.FindAnswers.{find-2, find-kept}
 use Rattle.block_land.proofs.Land.{block_land}
 use Rattle.block_land.proofs.FindAnswers.{find-within, find-holding, find-end, find-order, find-room, find-0}

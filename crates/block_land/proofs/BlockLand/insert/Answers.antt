@@ -3,7 +3,6 @@ use Rattle.model.specs.Calls.{insert}
 use Rattle.model.proofs.lands.EditAnswers.{edit-5, edit-6}
 use Rattle.model.proofs.lands.Looking.{saw}
 use Rattle.block_land.proofs.Land.{block_land}
-use borrow.Author.Rules.{rules}
 use Rattle.block_land.proofs.BlockLand.insert.Goals as goal
 
 pub insert_at-requires : goal.insert_at-requires

@@ -1,15 +1,11 @@
 -- `BlockLand::insert_at` meets its contract: 4, 1, 3, and the edit done. Assumes nothing.
-use mathlib.Core.Bool.{true}
 use mathlib.Core.List.{[]}
-use mathlib.Core.Path.{◌≡◌}
-use Rattle.model.specs.Calls.{good_range_in}
 use Rattle.model.proofs.Checks.{range-bad, range-good}
 use Rattle.block_land.specs.Layout.{arena_of}
 use Rattle.model.proofs.lands.EditAnswers.{edit-4, insert-edits}
 use Rattle.block_land.proofs.Land.{block_land}
 use Rattle.block_land.proofs.Requests.{readable, looked-spot, looked-positive, looked-align, sorted, edit-order, edit-order-le}
 use Rattle.block_land.proofs.EditAnswers.{insert-1, insert-3, insert-room, insert-0}
-use borrow.Author.Rules.{rules}
 use Rattle.block_land.specs.inner.Parts.{reach_base}
 use Rattle.block_land.proofs.BlockLand.insert_at.Goals as goal
 

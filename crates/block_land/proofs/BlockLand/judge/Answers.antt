@@ -1,6 +1,5 @@
 -- `BlockLand::judge` meets its contract: low water, then the table. Assumes nothing.
 use Rattle.block_land.proofs.Ways.{judge-ready, judge-low, judge-table}
-use borrow.Author.Rules.{rules}
 use Rattle.block_land.proofs.BlockLand.judge.Goals as goal
 
 pub returns-in_default : goal.returns-in_default

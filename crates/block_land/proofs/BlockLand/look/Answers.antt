@@ -2,7 +2,6 @@
 use Rattle.model.proofs.lands.Ways.{look-bad, look-low}
 use Rattle.block_land.proofs.Land.{block_land}
 use Rattle.block_land.proofs.Ways.{good-ready, look-damaged, look-sound}
-use borrow.Author.Rules.{rules}
 use Rattle.block_land.proofs.BlockLand.look.Goals as goal
 
 pub returns-in_default : goal.returns-in_default

@@ -1,6 +1,5 @@
 -- `BlockLand::open` meets its contract: 5, or the pair words set to 0. Assumes nothing.
 use Rattle.block_land.proofs.Ways.{open-good, open-bad, new-zero}
-use borrow.Author.Rules.{rules}
 use Rattle.block_land.proofs.BlockLand.open.Goals as goal
 
 pub returns-in_default : goal.returns-in_default

@@ -1,7 +1,6 @@
 -- `BlockLand::set_up` meets its contract. Assumes nothing.
 use Rattle.model.proofs.lands.Ways.{set-up-bad, set-up-lent}
 use Rattle.block_land.proofs.Land.{block_land}
-use borrow.Author.Rules.{rules}
 use Rattle.block_land.proofs.BlockLand.set_up.Goals as goal
 
 pub returns-in_default : goal.returns-in_default

@@ -1,6 +1,5 @@
 -- `first` meets its contract: no range before is long enough. Assumes nothing.
-use Rattle.std.proofs.Common.{◌-◌, arith, rules}
-use Rattle.block_words.proofs.Finding.{Upwards, ups}
+use Rattle.block_words.proofs.Finding.{ups}
 use Rattle.block_words.proofs.seeks.first.Goals as goal
 
 pub size-requires : goal.size-requires

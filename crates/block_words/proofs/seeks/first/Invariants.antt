@@ -1,6 +1,6 @@
 -- `first` meets its contract: no range before is long enough. Assumes nothing.
-use Rattle.std.proofs.Common.{◌-◌, arith, rules}
-use Rattle.block_words.proofs.Finding.{Upwards, ups}
+use Rattle.std.proofs.Common.{◌-◌}
+use Rattle.block_words.proofs.Finding.{Upwards}
 use Rattle.block_words.proofs.seeks.first.Given as goal
 
 abbrev pub invariant-loop-i : goal.invariant-loop-i

@@ -1,6 +1,6 @@
 -- `first_reach` meets its contract: the place is from lo up to hi. Assumes nothing.
-use Rattle.std.proofs.Common.{◌-◌, arith, rules}
-use Rattle.block_words.proofs.Halving.{Halving, halve-start, halve-up, halve-down, halve-done}
+use Rattle.std.proofs.Common.{◌-◌}
+use Rattle.block_words.proofs.Halving.{Halving}
 use Rattle.block_words.proofs.seeks.first_reach.Given as goal
 
 abbrev pub invariant-loop-lo : goal.invariant-loop-lo

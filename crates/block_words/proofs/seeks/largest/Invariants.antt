@@ -1,6 +1,6 @@
 -- `largest` meets its contract: at each turn what is kept of the rest is kept of all. Assumes nothing.
-use Rattle.std.proofs.Common.{◌-◌, arith, rules}
-use Rattle.block_words.proofs.Weighing.{Weighing, weighings}
+use Rattle.std.proofs.Common.{◌-◌}
+use Rattle.block_words.proofs.Weighing.{Weighing}
 use Rattle.block_words.proofs.seeks.largest.Given as goal
 
 abbrev pub invariant-loop-i : goal.invariant-loop-i

@@ -1,6 +1,5 @@
 -- `last` meets its contract: no range behind is long enough. Assumes nothing.
-use Rattle.std.proofs.Common.{arith, rules}
-use Rattle.block_words.proofs.Finding.{Downwards, downs}
+use Rattle.block_words.proofs.Finding.{downs}
 use Rattle.block_words.proofs.seeks.last.Goals as goal
 
 pub size-requires : goal.size-requires

@@ -1,6 +1,5 @@
 -- `reached` meets its contract. Assumes nothing.
 use Rattle.block_words.proofs.Seeking.{places}
-use Rattle.std.proofs.Common.{rules}
 use Rattle.block_words.proofs.seeks.reached.Goals as goal
 
 pub returns : goal.returns

@@ -1,6 +1,5 @@
 -- `judge` meets its contract: going on from each turn comes to the same as from the start. Assumes nothing.
-use Rattle.std.proofs.Common.{◌-◌, rules}
-use Rattle.block_words.proofs.Sweeping.{Going, goings}
+use Rattle.block_words.proofs.Sweeping.{goings}
 use Rattle.block_words.proofs.sweep.judge.Goals as goal
 
 pub loop-sweep-preserved : goal.loop-sweep-preserved

@@ -1,6 +1,6 @@
 -- `judge` meets its contract: going on from each turn comes to the same as from the start. Assumes nothing.
-use Rattle.std.proofs.Common.{◌-◌, rules}
-use Rattle.block_words.proofs.Sweeping.{Going, goings}
+use Rattle.std.proofs.Common.{◌-◌}
+use Rattle.block_words.proofs.Sweeping.{Going}
 use Rattle.block_words.proofs.sweep.judge.Given as goal
 
 abbrev pub invariant-loop-sweep : goal.invariant-loop-sweep

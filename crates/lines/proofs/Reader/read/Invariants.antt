@@ -1,9 +1,7 @@
 -- `Reader::read` meets its contract: at each turn the bytes up to here are read, and none is a newline. Assumes nothing.
 use Prim.Native.Nat.{◌-◌}
-use native.Mathlib.Omega.{arith}
 use lib.ListN.{length}
-use borrow.Author.Rules.{rules}
-use Rattle.lines.proofs.Running.{Along, along-start, along-next, along-newline, along-end}
+use Rattle.lines.proofs.Running.{Along}
 use Rattle.lines.proofs.Reader.read.Given as goal
 
 abbrev pub invariant-loop-at : goal.invariant-loop-at

@@ -1,6 +1,5 @@
 -- `following` meets its contract. Assumes nothing.
 use Rattle.list_edits.proofs.PlaceWays.{after-ways}
-use borrow.Author.Rules.{rules}
 use Rattle.list_edits.proofs.placing.following.Goals as goal
 
 pub returns-then-is_zero : goal.returns-then-is_zero

@@ -1,6 +1,5 @@
 -- `place` meets its contract. Assumes nothing.
 use Rattle.list_edits.proofs.PlaceWays.{place-ways}
-use borrow.Author.Rules.{rules}
 use Rattle.list_edits.proofs.placing.place.Goals as goal
 
 pub returns-then-same : goal.returns-then-same

@@ -3,7 +3,6 @@ use Rattle.model.specs.Calls.{delete}
 use Rattle.model.proofs.lands.EditAnswers.{edit-5, edit-6}
 use Rattle.model.proofs.lands.Looking.{saw}
 use Rattle.list_land.proofs.Land.{list_land}
-use borrow.Author.Rules.{rules}
 use Rattle.list_land.proofs.ListLand.delete.Goals as goal
 
 pub delete_at-requires : goal.delete_at-requires

@@ -1,10 +1,6 @@
 -- `ListLand::delete_at` meets its contract: 4, 1, and the range taken out. Assumes nothing.
-use mathlib.Core.Bool.{true}
-use mathlib.Core.Path.{◌≡◌}
-use borrow.Author.Rules.{rules}
 use Rattle.model.proofs.Checks.{range-bad, range-good}
 use Rattle.model.proofs.lands.EditAnswers.{edit-4, delete-edits}
-use Rattle.model.specs.Calls.{good_range_in}
 use Rattle.list_land.specs.Layout.{arena_of}
 use Rattle.list_land.proofs.Land.{list_land}
 use Rattle.list_land.proofs.EditAnswers.{delete-asks, delete-1, delete-0}

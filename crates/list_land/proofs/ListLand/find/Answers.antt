@@ -3,7 +3,6 @@ use Rattle.model.specs.Calls.{find}
 use Rattle.model.proofs.lands.FindAnswers.{looked-5, looked-6}
 use Rattle.model.proofs.lands.Looking.{saw}
 use Rattle.list_land.proofs.Land.{list_land}
-use borrow.Author.Rules.{rules}
 use Rattle.list_land.proofs.ListLand.find.Goals as goal
 
 pub find_at-requires : goal.find_at-requires

@@ -1,10 +1,9 @@
 -- `ListLand::find_at` meets its contract: 4, 2, the range as it stands, and a part of it taken out. Assumes nothing.
 use mathlib.Core.Path.{refl}
-use Rattle.model.proofs.lands.FindAnswers.{Asked, find-4, find-asked, find-2, find-kept}
+use Rattle.model.proofs.lands.FindAnswers.{find-4, find-asked, find-2, find-kept}
 use Rattle.list_land.proofs.Land.{list_land}
 use Rattle.list_land.proofs.FindAnswers.{find-within, find-holding, find-0}
 use Rattle.list_land.proofs.Requests.{looked-align, looked-positive}
-use borrow.Author.Rules.{rules}
 use Rattle.list_land.proofs.ListLand.find_at.Goals as goal
 
 pub good_arena-arena-requires : goal.good_arena-arena-requires

@@ -3,7 +3,6 @@ use Rattle.model.specs.Calls.{insert}
 use Rattle.model.proofs.lands.EditAnswers.{edit-5, edit-6}
 use Rattle.model.proofs.lands.Looking.{saw}
 use Rattle.list_land.proofs.Land.{list_land}
-use borrow.Author.Rules.{rules}
 use Rattle.list_land.proofs.ListLand.insert.Goals as goal
 
 pub insert_at-requires : goal.insert_at-requires

@@ -2,7 +2,6 @@
 use Rattle.model.proofs.lands.Ways.{good-align, good-positive, look-bad, look-low}
 use Rattle.list_land.proofs.Land.{list_land}
 use Rattle.list_land.proofs.Ways.{good-ready, look-damaged, look-sound}
-use borrow.Author.Rules.{rules}
 use Rattle.list_land.proofs.ListLand.look.Goals as goal
 
 pub returns-in_default : goal.returns-in_default

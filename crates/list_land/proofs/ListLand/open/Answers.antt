@@ -1,6 +1,5 @@
 -- `ListLand::open` meets its contract. Assumes nothing.
 use Rattle.list_land.proofs.Ways.{open-ways}
-use borrow.Author.Rules.{rules}
 use Rattle.list_land.proofs.ListLand.open.Goals as goal
 
 pub returns-in_default : goal.returns-in_default

@@ -2,7 +2,6 @@
 use Rattle.model.proofs.lands.Ways.{set-up-bad, set-up-order, set-up-lent}
 use Rattle.list_land.proofs.Land.{list_land}
 use Rattle.list_land.proofs.Ways.{lent-good, lent-bad}
-use borrow.Author.Rules.{rules}
 use Rattle.list_land.proofs.ListLand.set_up.Goals as goal
 
 pub returns-in_default : goal.returns-in_default

@@ -1,7 +1,6 @@
 -- `ListLand::walk` meets its contract. Assumes nothing.
 use Rattle.model.proofs.lands.WalkAnswers.{walk-words, walk_5, walk_6, walk_2, walk_0}
 use Rattle.list_land.proofs.Land.{list_land}
-use borrow.Author.Rules.{rules}
 use Rattle.list_land.proofs.ListLand.walk.Goals as goal
 
 pub returns-then-is_zero : goal.returns-then-is_zero

@@ -1,6 +1,5 @@
 -- `first` meets its contract: each aim has its goal. Assumes nothing.
 use Rattle.list_words.proofs.Staying.{first-nothing, first_reach, first-from, first-find}
-use borrow.Author.Rules.{rules}
 use Rattle.list_words.proofs.seeks.first.Goals as goal
 
 pub returns-in-Nothing : goal.returns-in-Nothing

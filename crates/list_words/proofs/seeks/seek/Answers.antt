@@ -1,9 +1,6 @@
 -- `seek` meets its contract: nothing before the cursor fits. Assumes nothing.
-use Prim.Native.Nat.{◌+◌, ◌-◌}
-use Rattle.list_words.specs.inner.Surveys.{passed}
 use Rattle.list_words.proofs.Going.{along-near, along-less}
-use Rattle.list_words.proofs.Seeking.{Seeking, seek-broken, seek-order, low-above, begin-passed, at-passed, next-passed, end-passed}
-use borrow.Author.Rules.{rules}
+use Rattle.list_words.proofs.Seeking.{seek-broken, seek-order, low-above, begin-passed, at-passed, next-passed, end-passed}
 use mathlib.Core.Path.{ap}
 use mathlib.Core.Bool.{not}
 use Rattle.list_words.proofs.seeks.seek.Goals as goal

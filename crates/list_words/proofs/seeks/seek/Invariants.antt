@@ -1,9 +1,7 @@
 -- `seek` meets its contract: nothing before the cursor fits. Assumes nothing.
 use Prim.Native.Nat.{◌+◌, ◌-◌}
 use Rattle.list_words.specs.inner.Surveys.{passed}
-use Rattle.list_words.proofs.Going.{along-near, along-less}
-use Rattle.list_words.proofs.Seeking.{Seeking, seek-broken, seek-order, low-above, begin-passed, at-passed, next-passed, end-passed}
-use borrow.Author.Rules.{rules}
+use Rattle.list_words.proofs.Seeking.{Seeking}
 use Rattle.list_words.proofs.seeks.seek.Given as goal
 
 abbrev pub invariant-loop-arena : goal.invariant-loop-arena

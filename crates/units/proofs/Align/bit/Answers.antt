@@ -1,6 +1,5 @@
 -- `Align::bit` meets its contract: an alignment is its own lowest bit. Assumes nothing.
 use native.Mathlib.Omega.{arith}
-use lib.Bits.{and_le_l}
 use Rattle.units.proofs.Alignments.{align-positive, lowest-bit}
 use Rattle.units.proofs.Align.bit.Goals as goal
 

@@ -1,5 +1,4 @@
 -- `Align::divisor` meets its contract: an alignment that is none of the first nine is the tenth. Assumes nothing.
-use borrow.Author.Rules.{rules}
 use Rattle.units.proofs.Alignments.{align-last}
 use Rattle.units.proofs.Align.divisor.Goals as goal
 

@@ -1,6 +1,6 @@
 -- `Sweep::start` meets its contract. Assumes nothing.
-use Rattle.std.proofs.Common.{◌<◌, arith, rules}
-use Rattle.block_words.proofs.Tallying.{start-above, start-made}
+use Rattle.std.proofs.Common.{◌<◌, arith}
+use Rattle.block_words.proofs.Tallying.{start-above}
 use Rattle.block_words.proofs.sweep.Sweep.start.Goals as goal
 
 pub minus-requires : goal.minus-requires

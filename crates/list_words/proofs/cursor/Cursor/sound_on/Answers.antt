@@ -1,8 +1,5 @@
 -- `Cursor::sound_on` meets its contract: at each turn what was met, with the walk from there, is the whole walk. Assumes nothing.
-use Prim.Native.Nat.{◌+◌, ◌-◌}
-use Rattle.list_words.specs.inner.Surveys.{Along}
 use Rattle.list_words.proofs.Going.{goes}
-use borrow.Author.Rules.{rules}
 use Rattle.list_words.proofs.cursor.Cursor.sound_on.Goals as goal
 
 pub returns-in_default : goal.returns-in_default

@@ -1,5 +1,4 @@
 -- `Arena::check_range` meets its contract: each way out is a case of the rule. Assumes nothing.
-use borrow.Author.Rules.{rules}
 use Rattle.units.proofs.Ways.{range-ways}
 use Rattle.units.proofs.rules.Arena.check_range.Goals as goal
 

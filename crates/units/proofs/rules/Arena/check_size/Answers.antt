@@ -1,5 +1,4 @@
 -- `Arena::check_size` meets its contract: each way out is a case of the rule. Assumes nothing.
-use borrow.Author.Rules.{rules}
 use Rattle.units.proofs.Ways.{size-ways}
 use Rattle.units.proofs.rules.Arena.check_size.Goals as goal
 
