@@ -1,100 +1,145 @@
-// Reading and writing for a program, over the C library's calls. A call that was interrupted, or would have to wait on a
-// descriptor that does not block, is tried again; any other failure is answered, and errno tells its cause.
+// Reading and writing for a program, over std's readers, writers and files. A call that was interrupted, or would have to wait
+// on a descriptor that does not block, is tried again; any other failure is answered as its `io::Error`.
 //
-// Every function here is proved safe and ending, and the crate assumes nothing of its own. What is read and written no contract
-// can say. A call is tried again 2^64 - 1 times at most, since every loop has to end.
+// Every function here is proved safe and ending, and the crate assumes nothing of its own. Of a reader and a writer whose bytes
+// are known the contracts say which bytes moved; what the system reads and writes no contract can say. A call is tried again
+// 2^64 - 1 times at most, since every loop has to end.
 #![tactic(auto)]
 
-ghost use Rattle.std.specs.Prelude.{◌≤◌, length};
-ghost use Rattle.streams.specs.inner.Inputs.{Holds};
+ghost use Rattle.std.specs.Prelude.{◌≤◌, ◌≡◌, length, take, IfOk, OnErr, OnOk};
+ghost use Rattle.std.specs.Io.KnownBytes.{Appends, Keeps};
+ghost use Rattle.streams.specs.inner.Inputs.{Holds, Took};
+
+use std::fs::{OpenFile, OpenOptions};
+use std::io::{ErrorKind, Read, Write};
+use std::rt::{Env, Files};
+use std::{fs, io, thread};
 
 // What a read brought: so many bytes, one at least, at the start of the buffer; the end of the input; or a failure.
 #[derive(Clone, Copy)]
 pub enum Input {
     Bytes(usize),
     End,
-    Failed,
+    Failed(io::Error),
 }
 
-// Whether the call that has just failed is to be tried again. Where it would have to wait, others run first.
-fn is_passing() -> bool {
-    let error = os::errno();
-    if error == libc::EAGAIN {
-        libc::sched_yield();
-        return true;
+// Whether the call that failed so is to be tried again. Where it would have to wait, others run first.
+fn is_passing(error: &io::Error) -> bool {
+    match error.kind() {
+        ErrorKind::WouldBlock => {
+            thread::yield_now();
+            true
+        }
+        ErrorKind::Interrupted => true,
+        _ => false,
     }
-    error == libc::EINTR
 }
 
 // One read. Into a buffer of no bytes nothing can be read: that looks like the end of the input.
-pub fn read(fd: i32, buf: &mut [u8]) -> Input
-    ensures { Holds result buf.new }
+pub fn read<R: Read>(from: &mut R, buf: &mut [u8]) -> Input
+    ensures holds { Holds result buf.new }
+    ensures took { Took (R.remaining from.old) (R.remaining from.new) result buf.new }
 {
-    let mut tries = u64::MAX;
-    while tries > 0 {
-        tries -= 1;
-        let got = libc::read(fd, buf);
-        let n = io::count(got, buf);
-        if n > 0 {
-            return Input::Bytes(n);
-        }
-        if got >= 0 {
-            return Input::End;
-        }
-        if !is_passing() {
-            return Input::Failed;
+    for _ in 0..u64::MAX {
+        match from.read(buf) {
+            Ok(0) => return Input::End,
+            Ok(n) => return Input::Bytes(n),
+            Err(e) => {
+                if !is_passing(&e) {
+                    return Input::Failed(e);
+                }
+            }
         }
     }
-    Input::Failed
+    Input::Failed(io::Error::from(ErrorKind::TimedOut))
 }
 
-// One write: how many of the first bytes it took, 0 where it failed.
-fn write_some(fd: i32, bytes: &[u8]) -> usize
-    ensures { result ≤ length bytes.now }
+// One write: how many of the first bytes it took.
+fn write_some<W: Write>(to: &mut W, bytes: &[u8]) -> io::Result<usize>
+    ensures bound { IfOk result (λ n. n ≤ length bytes.now) }
+    ensures took { IfOk result (λ n. Appends (W.contents to.old) (W.contents to.new) (take n bytes.now)) }
+    ensures none { OnErr result (Keeps (W.contents to.old) (W.contents to.new)) }
 {
-    let mut tries = u64::MAX;
-    while tries > 0 {
-        tries -= 1;
-        let put = libc::write(fd, bytes);
-        if put >= 0 {
-            return io::count(put, bytes);
-        }
-        if !is_passing() {
-            return 0;
+    for _ in 0..u64::MAX {
+        match to.write(bytes) {
+            Ok(n) => return Ok(n),
+            Err(e) => {
+                if !is_passing(&e) {
+                    return Err(e);
+                }
+            }
         }
     }
-    0
+    Err(io::Error::from(ErrorKind::TimedOut))
 }
 
-// Writes all the bytes, and answers whether it did. A write that takes nothing counts as one that failed.
-pub fn write(fd: i32, bytes: &[u8]) -> bool {
+// Writes all the bytes, or answers what failed. A write that takes nothing counts as one that failed.
+pub fn write<W: Write>(to: &mut W, bytes: &[u8]) -> io::Result<()>
+    ensures { OnOk result (Appends (W.contents to.old) (W.contents to.new) bytes.now) }
+{
     let mut from: usize = 0;
     while from < bytes.len() {
-        let put = write_some(fd, &bytes[from..]);
+        let put = write_some(to, &bytes[from..])?;
         if put == 0 {
-            return false;
+            return Err(io::Error::from(ErrorKind::WriteZero));
         }
         from += put;
     }
-    true
+    Ok(())
 }
 
-// Closes a descriptor and answers whether all that was written is kept, as far as the system says it there. One that is not open
-// has nothing to keep, and one whose closing was interrupted is closed.
-pub fn close(fd: i32) -> bool {
-    if libc::close(fd) == 0 {
-        return true;
+// Whether an error says only that there is nothing to ask: a file that cannot be synchronized, or one that is open for no writing.
+fn is_silent(kind: ErrorKind) -> bool {
+    match kind {
+        ErrorKind::InvalidInput => true,
+        ErrorKind::Unsupported => true,
+        ErrorKind::ReadOnlyFilesystem => true,
+        _ => false,
     }
-    let error = os::errno();
-    error == libc::EBADF || error == libc::EINTR
+}
+
+// Ends the writing to a descriptor, by its path, and answers whether all that was written is kept, as far as the system says it.
+// Only a regular file may lose what it took. One that is not open has nothing to keep. The descriptor itself is closed where
+// the program ends.
+pub fn close<R: Files>(rt: &R, path: &str) -> io::Result<()> {
+    let Ok(about) = fs::metadata(rt, path) else {
+        return Ok(());
+    };
+    if !about.is_file() {
+        return Ok(());
+    }
+    let Ok(file) = OpenOptions::new().write(true).open(rt, path) else {
+        return Ok(());
+    };
+    match file.sync_data() {
+        Err(e) if !is_silent(e.kind()) => Err(e),
+        _ => Ok(()),
+    }
 }
 
 // Says that all was done, to whoever started the program with the argument 3: a byte on descriptor 3. Without that argument
 // nothing is written there.
-pub fn tell_done() -> bool {
+pub fn tell_done<R: Env + Files>(rt: &R) -> io::Result<()> {
     let mut word = [0u8; 1];
-    if os::arg(1, &mut word) == 1 && word[0] == b'3' {
-        return write(3, &word);
+    let Ok(1) = rt.arg(1, &mut word) else {
+        return Ok(());
+    };
+    if word[0] != b'3' {
+        return Ok(());
     }
-    true
+    let mut sign = OpenOptions::new().write(true).open(rt, "/dev/fd/3")?;
+    write(&mut sign, &word)
+}
+
+// Says on standard error what failed and why, in a line, without the number of the system's error. Where that cannot be written,
+// nothing is said.
+pub fn fail<R: Eprint + Alloc>(rt: &R, what: &str, error: &io::Error) {
+    let Ok(text) = format!(in rt.alloc(); "{error}") else {
+        let _ = eprintln!(rt; "{what}: {error}");
+        return;
+    };
+    let _ = match text.as_str().split_once(" (os error ") {
+        Some((cause, _)) => eprintln!(rt; "{what}: {cause}"),
+        None => eprintln!(rt; "{what}: {text}"),
+    };
 }
