@@ -1,37 +1,50 @@
 // Plays the requests of standard input on one list land of at most 4,096 words, and writes the answers to standard output.
 //
-// What is printed for which input is proved in `script`; this program reads, lends and writes. It assumes the contracts of
-// the kit's libc and os, and nothing else. Where an input cannot be read or an answer not be written, it says so in a line on
-// standard error and ends; else `streams` tells whoever started it that all was written.
+// What is printed for which input is proved in `script`; this program reads, lends and writes. It assumes the contracts of std,
+// and nothing else. Where an input cannot be read or an answer not be written, it says so in a line on standard error and ends
+// with status 1; else `streams` tells whoever started it that all was written. Where the reader of its answers has gone away it
+// says nothing and ends with status 141, which a shell gives for a program that is ended so by the signal.
 #![tactic(auto)]
 
-ghost use Rattle.std.specs.Prelude.{◌≤◌, length};
+ghost use Rattle.std.specs.Prelude.{◌≤◌, length, take, OnOk};
+ghost use Rattle.std.specs.Io.KnownBytes.{Appends};
 ghost use Rattle.play.specs.inner.Steps.{Still, Stills};
 
 use script::Script;
+use std::io;
+use std::io::{ErrorKind, Read, Write};
+use std::process::ExitCode;
+use std::rt::Files;
 use streams::Input;
 
-// Where the program stands after some bytes: it goes on, the input has ended, or what it prints is no longer taken.
+// What failed, with the system's error.
+#[derive(Clone, Copy)]
+pub enum Fault {
+    Reading(io::Error),
+    Writing(io::Error),
+    Closing(io::Error),
+    Telling(io::Error),
+}
+
+// Where the program stands after some bytes: it goes on, the input has ended, or it cannot be read or what it prints is no
+// longer taken.
 #[derive(Clone, Copy)]
 pub enum Step {
     More(Script),
     Ended(Script),
-    Broken,
+    Broken(Fault),
 }
 
 // Writes the first n bytes of the buffer.
-fn put_out(out: &[u8], n: usize) -> bool
+fn put_out<W: Write>(to: &mut W, out: &[u8], n: usize) -> Result<(), Fault>
     requires { n ≤ length out.now }
+    ensures { OnOk result (Appends (W.contents to.old) (W.contents to.new) (take n out.now)) }
 {
-    if streams::write(libc::STDOUT_FILENO, &out[..n]) {
-        return true;
-    }
-    os::fail(b"play: answers are missing: writing standard output");
-    false
+    streams::write(to, &out[..n]).map_err(Fault::Writing)
 }
 
 // Prints a description to its end.
-fn describe(start: Script, words: &[u64], out: &mut [u8]) -> Step
+fn describe<W: Write>(to: &mut W, start: Script, words: &[u64], out: &mut [u8]) -> Step
     requires { 105 ≤ length out.old }
     ensures { Stills result }
 {
@@ -39,15 +52,21 @@ fn describe(start: Script, words: &[u64], out: &mut [u8]) -> Step
     while script.is_describing() {
         let fed = script.describe(words, out);
         script = fed.script;
-        if !put_out(out, fed.at) {
-            return Step::Broken;
+        if let Err(fault) = put_out(to, out, fed.at) {
+            return Step::Broken(fault);
         }
     }
     Step::More(script)
 }
 
 // Plays the lines of some bytes.
-fn feed(start: Script, words: &mut [u64], out: &mut [u8], bytes: &[u8]) -> Step
+fn feed<W: Write>(
+    to: &mut W,
+    start: Script,
+    words: &mut [u64],
+    out: &mut [u8],
+    bytes: &[u8],
+) -> Step
     requires in_bounds { 105 ≤ length out.old }
     requires still { Still start }
     ensures { Stills result }
@@ -57,11 +76,12 @@ fn feed(start: Script, words: &mut [u64], out: &mut [u8], bytes: &[u8]) -> Step
     while from < bytes.len() {
         let fed = script.feed(words, out, &bytes[from..]);
         from += fed.used;
-        if !put_out(out, fed.at) {
-            return Step::Broken;
+        if let Err(fault) = put_out(to, out, fed.at) {
+            return Step::Broken(fault);
         }
-        let Step::More(next) = describe(fed.script, words, out) else {
-            return Step::Broken;
+        let step = describe(to, fed.script, words, out);
+        let Step::More(next) = step else {
+            return step;
         };
         script = next;
     }
@@ -69,56 +89,90 @@ fn feed(start: Script, words: &mut [u64], out: &mut [u8], bytes: &[u8]) -> Step
 }
 
 // One read of the input.
-fn read_on(script: Script, words: &mut [u64], out: &mut [u8], space: &mut [u8]) -> Step
+fn read_on<R: Read, W: Write>(
+    from: &mut R,
+    to: &mut W,
+    script: Script,
+    words: &mut [u64],
+    out: &mut [u8],
+    space: &mut [u8],
+) -> Step
     requires in_bounds { 105 ≤ length out.old }
     requires still { Still script }
     ensures { Stills result }
 {
-    match streams::read(libc::STDIN_FILENO, space) {
-        Input::Bytes(n) => feed(script, words, out, &space[..n]),
+    match streams::read(from, space) {
+        Input::Bytes(n) => feed(to, script, words, out, &space[..n]),
         Input::End => Step::Ended(script),
-        Input::Failed => {
-            os::fail(b"play: answers are missing: reading standard input");
-            Step::Broken
-        }
+        Input::Failed(e) => Step::Broken(Fault::Reading(e)),
     }
 }
 
 // The end of the input.
-fn finish(script: Script, out: &mut [u8]) -> bool {
+fn finish<F: Files, W: Write>(
+    rt: &F,
+    to: &mut W,
+    script: Script,
+    out: &mut [u8],
+) -> Result<(), Fault> {
     let n = script.end(out);
-    if !put_out(out, n) {
-        return false;
-    }
-    if streams::close(libc::STDOUT_FILENO) {
-        return true;
-    }
-    os::fail(b"play: answers are missing: closing standard output");
-    false
+    put_out(to, out, n)?;
+    streams::close(rt, "/dev/fd/1").map_err(Fault::Closing)
 }
 
-// The whole input: whether every answer was written. Each turn reads a byte at least: no input comes near the bound.
-fn run(words: &mut [u64], out: &mut [u8], space: &mut [u8]) -> bool
+// The whole input, to the last answer. Each turn reads a byte at least: no input comes near the bound.
+fn run<F: Files, R: Read, W: Write>(
+    rt: &F,
+    from: &mut R,
+    to: &mut W,
+    words: &mut [u64],
+    out: &mut [u8],
+    space: &mut [u8],
+) -> Result<(), Fault>
     requires { 105 ≤ length out.old }
 {
     let mut script = Script::new();
-    let mut turns = u64::MAX;
-    while turns > 0 {
-        match read_on(script, words, out, space) {
+    for _ in 0..u64::MAX {
+        match read_on(from, to, script, words, out, space) {
             Step::More(next) => script = next,
-            Step::Ended(last) => return finish(last, out),
-            Step::Broken => return false,
+            Step::Ended(last) => return finish(rt, to, last, out),
+            Step::Broken(fault) => return Err(fault),
         }
-        turns -= 1;
     }
-    false
+    Err(Fault::Reading(io::Error::from(ErrorKind::TimedOut)))
 }
 
-fn main() {
+// Whether the reader of the answers has gone away.
+fn is_unread(fault: Fault) -> bool {
+    match fault {
+        Fault::Writing(e) => e.kind() == ErrorKind::BrokenPipe,
+        _ => false,
+    }
+}
+
+// The line on standard error for what failed.
+fn say<R: Eprint + Alloc>(rt: &R, fault: Fault) {
+    let (what, error) = match fault {
+        Fault::Reading(e) => ("play: answers are missing: reading standard input", e),
+        Fault::Writing(e) => ("play: answers are missing: writing standard output", e),
+        Fault::Closing(e) => ("play: answers are missing: closing standard output", e),
+        Fault::Telling(e) => ("play: saying that all answers were written", e),
+    };
+    streams::fail(rt, what, &error);
+}
+
+fn main(rt: HostRuntime) -> ExitCode {
     let mut words = [0u64; 4096];
-    let mut out = io::large_buffer();
-    let mut space = io::large_buffer();
-    if run(&mut words, &mut out, &mut space) && !streams::tell_done() {
-        os::fail(b"play: saying that all answers were written");
+    let mut out = [0u8; 65536];
+    let mut space = [0u8; 65536];
+    let (mut from, mut to) = (rt.stdin(), rt.stdout());
+    let played = run(&rt, &mut from, &mut to, &mut words, &mut out, &mut space);
+    match played.and_then(|()| streams::tell_done(&rt).map_err(Fault::Telling)) {
+        Ok(()) => ExitCode::SUCCESS,
+        Err(fault) if is_unread(fault) => ExitCode::from(141),
+        Err(fault) => {
+            say(&rt, fault);
+            ExitCode::FAILURE
+        }
     }
 }

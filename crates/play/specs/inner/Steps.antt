@@ -12,4 +12,4 @@ Still s = is_describing s.stage ≡ false
 abbrev pub Stills : Step → Type 0
 Stills (Step.More s) = Still s
 Stills (Step.Ended s) = Still s
-Stills Step.Broken = Unit {0}
+Stills (Step.Broken fault) = Unit {0}
