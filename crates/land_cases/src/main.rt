@@ -1,5 +1,5 @@
 // Plays records of standard input on the list land, the block land and the pair, each with its own handle and words, and
-// prints what each call returns. It assumes the contracts of libc's read and write, and nothing else.
+// prints what each call returns. It assumes the contracts of std, and nothing else.
 //
 // A record is OP base limit align head ranges bytes filled low NWORDS w0 .. A B C. OP: 0 open, 1 insert, 2 delete, 3 find first,
 // 4 find last, 5 find largest, 6 walk on a list land; 10 to 16 the same on a block land, whose head is not read, and
@@ -14,6 +14,8 @@ use block_land::BlockLand;
 use flush::Flushed;
 use list_land::{Changed, Found, ListLand};
 use pair::Pair;
+use std::io;
+use std::io::Read;
 use units::{Addr, Align, LowWater, Mode, Range, Size};
 
 // A number with one digit more; or its end; or a digit by which it would pass 2^64 - 1.
@@ -286,202 +288,242 @@ fn call_pair(
 }
 
 // A space and a number.
-fn show(n: u64) {
-    io::write_all(1, b" ");
-    io::print_decimal(1, n);
+fn show<R: Print>(rt: &R, n: u64) -> io::Result<()> {
+    print!(rt; " {n}")
 }
 
-fn show_land(land: ListLand) {
-    show(land.base.number());
-    show(land.limit.number());
-    show(land.align.number());
-    show(land.head.number());
-    show(land.ranges);
-    show(land.bytes.number());
-    show(land.water.filled);
-    show(land.water.low.number());
+fn show_land<R: Print>(rt: &R, land: ListLand) -> io::Result<()> {
+    show(rt, land.base.number())?;
+    show(rt, land.limit.number())?;
+    show(rt, land.align.number())?;
+    show(rt, land.head.number())?;
+    show(rt, land.ranges)?;
+    show(rt, land.bytes.number())?;
+    show(rt, land.water.filled)?;
+    show(rt, land.water.low.number())
 }
 
-fn show_range(range: Range) {
-    show(range.base.number());
-    show(range.limit.number());
+fn show_range<R: Print>(rt: &R, range: Range) -> io::Result<()> {
+    show(rt, range.base.number())?;
+    show(rt, range.limit.number())
 }
 
-fn show_words(words: &[u64]) {
+fn show_words<R: Print>(rt: &R, words: &[u64]) -> io::Result<()> {
     let mut i: usize = 0;
     while i < words.len() {
-        show(words[i]);
+        show(rt, words[i])?;
         i = i + 1;
     }
+    Ok(())
 }
 
 // A line for a record: the answer, the handle, the two ranges and the words.
-fn show_line(found: Found, words: &[u64]) {
-    io::print_decimal(1, found.answer);
-    show_land(found.land);
-    show_range(found.range);
-    show_range(found.old);
-    show_words(words);
-    io::write_all(1, b"\n");
+fn show_line<R: Print>(rt: &R, found: Found, words: &[u64]) -> io::Result<()> {
+    print!(rt; "{}", found.answer)?;
+    show_land(rt, found.land)?;
+    show_range(rt, found.range)?;
+    show_range(rt, found.old)?;
+    show_words(rt, words)?;
+    println!(rt)
 }
 
 // A line for a flush: the answer, the number moved, the stop, the two handles, the node words and the arena words.
-fn show_flush(f: Flushed, words: &[u64], nodes: &[u64]) {
-    io::print_decimal(1, f.answer);
-    show(f.moved);
-    show(f.stop);
-    show_land(f.list);
-    show_land(with_head(f.block));
-    show_words(nodes);
-    show_words(words);
-    io::write_all(1, b"\n");
+fn show_flush<R: Print>(rt: &R, f: Flushed, words: &[u64], nodes: &[u64]) -> io::Result<()> {
+    print!(rt; "{}", f.answer)?;
+    show(rt, f.moved)?;
+    show(rt, f.stop)?;
+    show_land(rt, f.list)?;
+    show_land(rt, with_head(f.block))?;
+    show_words(rt, nodes)?;
+    show_words(rt, words)?;
+    println!(rt)
 }
 
 // A line for a call of the pair: the answer, the two handles, the two ranges, the node words and the arena words.
-fn show_pair(found: pair::Found, words: &[u64], nodes: &[u64]) {
+fn show_pair<R: Print>(rt: &R, found: pair::Found, words: &[u64], nodes: &[u64]) -> io::Result<()> {
     let pair = found.pair;
-    io::print_decimal(1, found.answer);
-    show_land(pair.list);
-    show_land(with_head(pair.block));
-    show_range(found.range);
-    show_range(found.old);
-    show_words(nodes);
-    show_words(words);
-    io::write_all(1, b"\n");
+    print!(rt; "{}", found.answer)?;
+    show_land(rt, pair.list)?;
+    show_land(rt, with_head(pair.block))?;
+    show_range(rt, found.range)?;
+    show_range(rt, found.old)?;
+    show_words(rt, nodes)?;
+    show_words(rt, words)?;
+    println!(rt)
 }
 
 // The call of a record, and its line.
-fn play_call(front: &[u64; 10], words: &mut [u64], args: &[u64; 3]) {
+fn play_call<R: Print>(
+    rt: &R,
+    front: &[u64; 10],
+    words: &mut [u64],
+    args: &[u64; 3],
+) -> io::Result<()> {
     if front[0] < 10 {
         let found = call(front[0], handle(front), words, args[0], args[1]);
-        show_line(found, words);
-        return;
+        return show_line(rt, found, words);
     }
     let found = call_block(front[0], block_handle(front), words, args[0], args[1]);
-    show_line(found, words);
+    show_line(rt, found, words)
 }
 
 // The flush of a record, and its line.
-fn play_flush(front: &[u64; 10], words: &[u64], second: &[u64; 10], nodes: &mut [u64]) {
+fn play_flush<R: Print>(
+    rt: &R,
+    front: &[u64; 10],
+    words: &[u64],
+    second: &[u64; 10],
+    nodes: &mut [u64],
+) -> io::Result<()> {
     let f = flush::flush(handle(front), words, block_handle(second), nodes);
-    show_flush(f, words, nodes);
+    show_flush(rt, f, words, nodes)
 }
 
 // The rest of a record of the pair, from its three last numbers on.
-fn play_pair(
+fn play_pair<R: Print>(
+    rt: &R,
     text: &[u8],
     from: usize,
     front: &[u64; 10],
     words: &mut [u64],
     second: &[u64; 10],
     nodes: &mut [u64],
-) -> Place {
+) -> io::Result<Place> {
     let mut args = [0u64; 3];
     let p = fill(text, from, &mut args);
     if !p.good {
-        return p;
+        return Ok(p);
     }
     let pair = Pair {
         list: handle(front),
         block: block_handle(second),
     };
     let found = call_pair(front[0], pair, words, nodes, args[0], args[1]);
-    show_pair(found, words, nodes);
-    p
+    show_pair(rt, found, words, nodes)?;
+    Ok(p)
 }
 
 // The rest of a flush or of a record of the pair, from its node words on.
-fn play_nodes(
+fn play_nodes<R: Print>(
+    rt: &R,
     text: &[u8],
     from: usize,
     front: &[u64; 10],
     words: &mut [u64],
     second: &[u64; 10],
     nodes: &mut [u64],
-) -> Place {
+) -> io::Result<Place> {
     let p = fill(text, from, nodes);
     if !p.good {
-        return p;
+        return Ok(p);
     }
     if 20 < front[0] {
-        return play_pair(text, p.at, front, words, second, nodes);
+        return play_pair(rt, text, p.at, front, words, second, nodes);
     }
-    play_flush(front, words, second, nodes);
-    p
+    play_flush(rt, front, words, second, nodes)?;
+    Ok(p)
 }
 
 // The rest of a flush or of a record of the pair, from the block land's numbers on.
-fn play_block(text: &[u8], from: usize, front: &[u64; 10], words: &mut [u64]) -> Place {
+fn play_block<R: Print>(
+    rt: &R,
+    text: &[u8],
+    from: usize,
+    front: &[u64; 10],
+    words: &mut [u64],
+) -> io::Result<Place> {
     let mut second = [0u64; 10];
     let mut nodes = [0u64; 64];
     let p = fill(text, from, &mut second);
     if !p.good {
-        return p;
+        return Ok(p);
     }
     let n = second[9];
     if 64 < n {
-        return Place {
+        return Ok(Place {
             good: false,
             at: p.at,
-        };
+        });
     }
     let k = n as usize;
-    play_nodes(text, p.at, front, words, &second, &mut nodes[..k])
+    play_nodes(rt, text, p.at, front, words, &second, &mut nodes[..k])
 }
 
 // The rest of a record, from its words on.
-fn play_words(text: &[u8], from: usize, front: &[u64; 10], words: &mut [u64]) -> Place {
+fn play_words<R: Print>(
+    rt: &R,
+    text: &[u8],
+    from: usize,
+    front: &[u64; 10],
+    words: &mut [u64],
+) -> io::Result<Place> {
     let p = fill(text, from, words);
     if !p.good {
-        return p;
+        return Ok(p);
     }
     if 20 <= front[0] {
-        return play_block(text, p.at, front, words);
+        return play_block(rt, text, p.at, front, words);
     }
     let mut args = [0u64; 3];
     let q = fill(text, p.at, &mut args);
     if !q.good {
-        return q;
+        return Ok(q);
     }
-    play_call(front, words, &args);
-    q
+    play_call(rt, front, words, &args)?;
+    Ok(q)
 }
 
 // One record.
-fn play(text: &[u8], from: usize) -> Place {
+fn play<R: Print>(rt: &R, text: &[u8], from: usize) -> io::Result<Place> {
     let mut front = [0u64; 10];
     let mut words = [0u64; 64];
     let p = fill(text, from, &mut front);
     if !p.good {
-        return p;
+        return Ok(p);
     }
     let n = front[9];
     if 64 < n {
-        return Place {
+        return Ok(Place {
             good: false,
             at: p.at,
-        };
+        });
     }
     let k = n as usize;
-    play_words(text, p.at, &front, &mut words[..k])
+    play_words(rt, text, p.at, &front, &mut words[..k])
 }
 
 // The records, of which there are fewer than bytes.
-fn play_all(text: &[u8]) {
+fn play_all<R: Print>(rt: &R, text: &[u8]) -> io::Result<()> {
     let mut at: usize = 0;
     let mut turns = text.len();
     while turns > 0 {
-        let p = play(text, at);
+        let p = play(rt, text, at)?;
         if !p.good {
-            return;
+            return Ok(());
         }
         at = p.at;
         turns = turns - 1;
     }
+    Ok(())
 }
 
-fn main() {
+// Reads until the buffer is full, the input ends or a read fails, and answers how many bytes stand at its start.
+fn read_full<R: Read>(from: &mut R, text: &mut [u8]) -> usize
+    ensures { result ≤ length text.new }
+{
+    let mut done: usize = 0;
+    while done < text.len() {
+        match from.read(&mut text[done..]) {
+            Ok(0) => return done,
+            Ok(n) => done += n,
+            Err(_) => return done,
+        }
+    }
+    done
+}
+
+fn main(rt: HostRuntime) -> io::Result<()> {
     let mut text = [0u8; 262144];
-    let n = io::read_full(0, &mut text);
-    play_all(&text[..n]);
+    let n = read_full(&mut rt.stdin(), &mut text);
+    play_all(&rt, &text[..n])
 }
