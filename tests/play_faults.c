@@ -1,6 +1,6 @@
-/* Faults for the program `play`, to be loaded before the C library (LD_PRELOAD). FAULTS_READ, FAULTS_WRITE and FAULTS_CLOSE have a
- * number for each call on standard input, and on standard output: one below 0 is an error that the call fails with, any other
- * is the most bytes that it moves. Calls behind the last number, other descriptors and other programs are left alone. */
+/* Faults for the program `play`, to be loaded before the C library (LD_PRELOAD). FAULTS_READ and FAULTS_WRITE have a number
+ * for each call on standard input, and on standard output, and FAULTS_SYNC for each one that writes a file out: one below 0 is an
+ * error that the call fails with, any other is the most bytes that it moves. Calls behind the last number, other descriptors and other programs are left alone. */
 #define _GNU_SOURCE
 #include <errno.h>
 #include <stdlib.h>
@@ -36,10 +36,9 @@ ssize_t write(int fd, const void *bytes, size_t n) {
     return moved(SYS_write, fd, (void *)bytes, n, fd == 1 ? next("FAULTS_WRITE", &at, (long)n) : (long)n);
 }
 
-int close(int fd) {
+int fdatasync(int fd) {
     static size_t at;
-    long number = fd == 1 ? next("FAULTS_CLOSE", &at, 0) : 0;
-    long closed = syscall(SYS_close, fd);
+    long number = next("FAULTS_SYNC", &at, 0);
     if (number < 0) errno = (int)-number;
-    return number < 0 ? -1 : (int)closed;
+    return number < 0 ? -1 : (int)syscall(SYS_fdatasync, fd);
 }

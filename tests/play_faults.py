@@ -1,5 +1,5 @@
 #!/usr/bin/env python3
-"""Tests what ./play does where it cannot read its input or write its answers: python3 tests/play_faults.py, after rt check play.
+"""Tests what ./play does where it cannot read its input or write its answers: python3 tests/play_faults.py, after ./play.
 
 Each case states the status, what is on standard output and what is on standard error. Needs gcc, for calls that fail
 (tests/play_faults.c). ./play asks rt whether the program is proved; here a stand-in answers yes, but for one case.
@@ -18,7 +18,7 @@ import time
 
 TOP = os.path.dirname(os.path.dirname(os.path.abspath(__file__)))
 PLAY = os.path.join(TOP, "play")
-PROGRAM = os.path.join(TOP, "target", "bin", "play")
+PROGRAM = os.path.join(TOP, "crates", "play", "out", "play")
 
 
 def contents(*path):
@@ -32,7 +32,8 @@ ANSWERS = b"0\n0 4096 4112\n0 4120 4128\n0 4096 4112 4096 4112\n1 0 0\n0 2 24\n4
 
 
 def missing(what, error=None):
-    text = what if error is None else f"{what}: {os.strerror(error)}"
+    """The line on standard error; an error is a number of the system's, or words."""
+    text = what if error is None else f"{what}: {os.strerror(error) if isinstance(error, int) else error}"
     return f"play: answers are missing: {text}\n".encode()
 
 
@@ -62,8 +63,10 @@ COMMANDS = [
     ("the program alone leaves descriptor 3", "$program <$sample 3>&1 >/dev/null", (0, b"", b"")),
     ("the program with a file's name leaves it too", "$program 3.txt <$sample 3>&1 >/dev/null", (0, b"", b"")),
     ("the program asked for a sign", "$program 3 <$sample 3>&1 >/dev/null", (0, b"3", b"")),
+    ("the program alone on a full disk", "$program <$sample >/dev/full", (1, b"", unwritten(errno.ENOSPC))),
+    ("the program alone with closed input", "$program <&-", (1, b"", unread(errno.EBADF))),
     ("a sign that is not taken", "$play $sample 3>&-; $program 3 </dev/null 3>/dev/full",
-     (0, ANSWERS, f"play: saying that all answers were written: {os.strerror(errno.ENOSPC)}\n".encode())),
+     (1, ANSWERS, f"play: saying that all answers were written: {os.strerror(errno.ENOSPC)}\n".encode())),
 ]
 
 INTERRUPTED, WOULD_BLOCK, FAULT = -errno.EINTR, -errno.EAGAIN, -errno.EIO
@@ -79,9 +82,16 @@ FAULTS = [
     ("writes that would block", "WRITE", [WOULD_BLOCK, 7, WOULD_BLOCK, INTERRUPTED, 1, WOULD_BLOCK], (0, ANSWERS, b"")),
     ("a first write that fails", "WRITE", [FAULT], (1, b"", unwritten(errno.EIO))),
     ("a later write that fails", "WRITE", [10, INTERRUPTED, 5, FAULT], (1, ANSWERS[:15], unwritten(errno.EIO))),
-    ("a write that takes nothing", "WRITE", [10, WOULD_BLOCK, 0], (1, ANSWERS[:10], unwritten(errno.EAGAIN))),
-    ("a close that is interrupted", "CLOSE", [INTERRUPTED], (0, ANSWERS, b"")),
-    ("a close that fails", "CLOSE", [FAULT], (1, ANSWERS, missing("closing standard output", errno.EIO))),
+    ("a write that takes nothing", "WRITE", [10, WOULD_BLOCK, 0], (1, ANSWERS[:10], unwritten("write zero"))),
+]
+
+# The same, where standard output is a file: it is written out at the end.
+FILE_FAULTS = [
+    ("a file", "SYNC", [], (0, ANSWERS, b"")),
+    ("a file whose writing out is interrupted", "SYNC", [INTERRUPTED, INTERRUPTED], (0, ANSWERS, b"")),
+    ("a file that cannot be written out", "SYNC", [-errno.EINVAL], (0, ANSWERS, b"")),
+    ("a file whose writing out fails", "SYNC", [FAULT], (1, ANSWERS, missing("closing standard output", errno.EIO))),
+    ("a file on a full disk", "SYNC", [-errno.ENOSPC], (1, ANSWERS, missing("closing standard output", errno.ENOSPC))),
 ]
 
 
@@ -101,9 +111,16 @@ def of_command(line):
     return result(subprocess.Popen(["sh", "-c", quoted], env=environment, stdout=subprocess.PIPE, stderr=subprocess.PIPE))
 
 
-def of_fault(shim, call, numbers):
+def of_fault(shim, call, numbers, **further):
     environment = {**os.environ, "LD_PRELOAD": shim, f"FAULTS_{call}": ",".join(map(str, numbers))}
-    return result(start(env=environment), SAMPLE)
+    return result(start(env=environment, **further), SAMPLE)
+
+
+def of_file_fault(shim, call, numbers):
+    with tempfile.TemporaryFile() as target:
+        status, _, err = of_fault(shim, call, numbers, stdout=target)
+        target.seek(0)
+        return status, target.read(), err
 
 
 def slow_reader():
@@ -193,6 +210,8 @@ def cases(shim):
         yield name, of_command(line), expected
     for name, call, numbers, expected in FAULTS:
         yield name, of_fault(shim, call, numbers), expected
+    for name, call, numbers, expected in FILE_FAULTS:
+        yield name, of_file_fault(shim, call, numbers), expected
     yield "many requests", result(start(), LONG), (0, LONG_ANSWERS, b"")
     yield "a pipe that does not block, and a slow reader", slow_reader(), (0, LONG_ANSWERS, b"")
     yield "a pipe that does not block, and a slow writer", slow_writer(), (0, ANSWERS, b"")

@@ -3,7 +3,7 @@
 
     play_speed.py [MEGABYTES] [RUNS]     50 megabytes and 5 runs, if nothing else is said
 
-Needs gcc and a built program (rt check play). The requests are random, in small arenas (play_cases.py --random), one script of a
+Needs gcc and a built program (./play, or rt run in crates/play). The requests are random, in small arenas (play_cases.py --random), one script of a
 megabyte again and again. The two programs run in turn, on one machine, in one run; what they write must be the same. The times
 are the medians of the processor's time in the program.
 """
@@ -39,7 +39,7 @@ def main(arguments):
         with open(source, "wb") as file:
             for _ in range(megabytes):
                 file.write(script)
-        programs = {"C": baseline, "play": os.path.join(TOP, "target", "bin", "play")}
+        programs = {"C": baseline, "play": os.path.join(TOP, "crates", "play", "out", "play")}
         times = {name: [] for name in programs}
         for _ in range(runs):
             for name, program in programs.items():
