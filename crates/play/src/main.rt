@@ -6,9 +6,11 @@
 // says nothing and ends with status 141, which a shell gives for a program that is ended so by the signal.
 #![tactic(auto)]
 
-ghost use Rattle.std.specs.Prelude.{◌≤◌, length, take, OnOk};
+ghost use Rattle.std.specs.Prelude.{[], ◌≤◌, ◌<◌, length, take, IfSome, OnOk};
 ghost use Rattle.std.specs.Io.KnownBytes.{Appends};
-ghost use Rattle.play.specs.inner.Steps.{Still, Stills};
+ghost use Rattle.play.specs.inner.Steps.{ReadPrints, StepPrints, Still, Stills};
+ghost use Rattle.script.specs.Calls.{ended};
+ghost use Rattle.script.specs.Printed.{whole};
 
 use script::Script;
 use std::io;
@@ -46,7 +48,8 @@ fn put_out<W: Write>(to: &mut W, out: &[u8], n: usize) -> Result<(), Fault>
 // Prints a description to its end.
 fn describe<W: Write>(to: &mut W, start: Script, words: &[u64], out: &mut [u8]) -> Step
     requires { 105 ≤ length out.old }
-    ensures { Stills result }
+    ensures stills { Stills result }
+    ensures prints { StepPrints (W.contents to.old) (W.contents to.new) start words.now [] result words.now }
 {
     let mut script = start;
     while script.is_describing() {
@@ -69,7 +72,8 @@ fn feed<W: Write>(
 ) -> Step
     requires in_bounds { 105 ≤ length out.old }
     requires still { Still start }
-    ensures { Stills result }
+    ensures stills { Stills result }
+    ensures prints { StepPrints (W.contents to.old) (W.contents to.new) start words.old bytes.now result words.new }
 {
     let mut script = start;
     let mut from: usize = 0;
@@ -99,7 +103,8 @@ fn read_on<R: Read, W: Write>(
 ) -> Step
     requires in_bounds { 105 ≤ length out.old }
     requires still { Still script }
-    ensures { Stills result }
+    ensures stills { Stills result }
+    ensures prints { 0 < length space.old → ReadPrints (R.remaining from.old) (R.remaining from.new) (W.contents to.old) (W.contents to.new) script words.old result words.new }
 {
     match streams::read(from, space) {
         Input::Bytes(n) => feed(to, script, words, out, &space[..n]),
@@ -114,7 +119,9 @@ fn finish<F: Files, W: Write>(
     to: &mut W,
     script: Script,
     out: &mut [u8],
-) -> Result<(), Fault> {
+) -> Result<(), Fault>
+    ensures { OnOk result (Appends (W.contents to.old) (W.contents to.new) (ended script (length out.old))) }
+{
     let n = script.end(out);
     put_out(to, out, n)?;
     streams::close(rt, "/dev/fd/1").map_err(Fault::Closing)
@@ -130,6 +137,7 @@ fn run<F: Files, R: Read, W: Write>(
     space: &mut [u8],
 ) -> Result<(), Fault>
     requires { 105 ≤ length out.old }
+    ensures { 0 < length space.old → OnOk result (IfSome (R.remaining from.old) (λ input. Appends (W.contents to.old) (W.contents to.new) (whole words.old input))) }
 {
     let mut script = Script::new();
     for _ in 0..u64::MAX {
