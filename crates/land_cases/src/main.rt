@@ -7,8 +7,10 @@
 //
 // A flush is OP 20: 20, the list's handle, NWORDS w0 .., then 0, the block land's handle, NNODES n0 .. with both handles in
 // the form above. OP 31 to 35 are insert, delete and the finds on a pair: the same numbers, then A B C. A number that cannot
-// be read ends the program. It reads 262,144 bytes at most.
+// be read ends the program. It reads 262,144 bytes at most. Where a write fails, the program ends with that error.
 #![tactic(auto)]
+
+ghost use Rattle.std.specs.Prelude.{◌≤◌, length};
 
 use block_land::BlockLand;
 use flush::Flushed;
