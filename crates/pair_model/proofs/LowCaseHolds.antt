@@ -1,14 +1,12 @@
 -- The worked example of K10 holds: by computing on ranges, and then of the reference model. Assumes nothing.
 use mathlib.Core.Path.{◌≡◌, refl, sym, subst}
-use mathlib.Core.List.{List, []}
+use mathlib.Core.List.{[]}
 use native.Mathlib.Omega.{arith}
 use Rattle.units.specs.Rules.{good_align, range_check}
 use Rattle.units.specs.LowWater.{unset}
-use Rattle.model.specs.Calls.{Outcome}
-use Rattle.model.specs.Histories.{Seen}
-use Rattle.model.specs.Lands.{Shown, land_answers}
+use Rattle.model.specs.Lands.{land_answers}
 use Rattle.model.proofs.Playing.{expected-same}
-use Rattle.pair_model.specs.Pairs.{Both, both}
+use Rattle.pair_model.specs.Pairs.{both}
 use Rattle.pair_model.specs.PairLayouts.{PairFine, pair_up, pair_rules, pair_reference_rules}
 use Rattle.pair_model.specs.PairCases.{small}
 use Rattle.pair_model.specs.LowCase.{four, by_rules, by_reference, Lows, LowCase}

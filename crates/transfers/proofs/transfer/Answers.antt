@@ -1,11 +1,8 @@
 -- `transfer` meets its contract: range after range, until none is left or one is refused. Assumes nothing.
-use Prim.Native.Nat.{◌-◌}
-use mathlib.Core.Path.{refl, ◌∙◌}
-use lib.ListN.{length}
-use borrow.Author.Rules.{rules}
+use mathlib.Core.Path.{refl}
 use Rattle.units.proofs.Ways.{said-true, said-false}
-use Rattle.transfers.proofs.Transferring.{Along, start, done}
-use Rattle.transfers.proofs.OneRange.{standing, put-ready, stops-1, stops-3, near, next, less}
+use Rattle.transfers.proofs.Transferring.{start, done}
+use Rattle.transfers.proofs.OneRange.{standing, put-ready, stops-1, stops-3, near, next}
 use mathlib.Core.Path.{ap}
 use mathlib.Core.Bool.{not}
 use Rattle.transfers.proofs.transfer.Goals as goal
