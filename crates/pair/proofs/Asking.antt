@@ -1,7 +1,7 @@
 -- A request to a pair that was checked: the range rule, and what a request that keeps it says with both lands. Assumes nothing.
 use Prim.Native.Nat.{ℕ, ◌≤◌, ◌<◌}
 use mathlib.Core.Bool.{true, false}
-use mathlib.Core.List.{List, [], ◌∷◌}
+use mathlib.Core.List.{List}
 use mathlib.Core.Path.{◌≡◌, refl, ap, ◌∙◌}
 use Rattle.units.specs.Rules.{good_align, range_check}
 use Rattle.units.specs.declared.Range as units

@@ -1,7 +1,7 @@
 -- The ways out of a find of a pair: 5, 6, 4, 2, the find in the list, the find in the block land. Assumes nothing.
 use Prim.Native.Nat.{ℕ, ◌<◌}
 use mathlib.Core.Bool.{Bool, true, cond}
-use mathlib.Core.List.{List, [], ◌∷◌}
+use mathlib.Core.List.{List}
 use mathlib.Core.Path.{◌≡◌, refl, sym, ap, ap₂, subst, ◌∙◌}
 use Rattle.units.specs.inner.Aims as units-aims
 use Rattle.units.specs.Rules.{good_align, find_check, find_size}

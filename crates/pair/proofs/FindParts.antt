@@ -1,6 +1,6 @@
 -- The ways out of a find in one land of a pair: the range as it stands, and a part of it taken out. Assumes nothing.
 use Prim.Native.Nat.{ℕ}
-use mathlib.Core.List.{List, [], ◌∷◌}
+use mathlib.Core.List.{List}
 use mathlib.Core.Path.{◌≡◌, refl, ap, ◌∙◌}
 use Rattle.units.specs.Rules.{find_size}
 use Rattle.units.specs.declared.Mode.{Mode}

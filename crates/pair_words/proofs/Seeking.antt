@@ -1,7 +1,7 @@
 -- The walk beside a table up to the first range that fits: what holds at each turn of the loop of `seek`, and its ways out. Assumes nothing.
 use Prim.Native.Nat.{ℕ, ◌+◌, ◌-◌, ◌≤◌, ◌<◌}
 use mathlib.Core.Bool.{Bool, true, false, not}
-use mathlib.Core.List.{List, [], ◌∷◌}
+use mathlib.Core.List.{List}
 use mathlib.Core.Path.{◌≡◌, sym, ap, subst}
 use lib.Dec.{eqb}
 use lib.ListN.{length}

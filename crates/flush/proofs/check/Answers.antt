@@ -1,6 +1,5 @@
 -- `check` meets its contract: the first check that fails. Assumes nothing.
 use Rattle.flush.proofs.Ways.{check-list, check-damaged, check_sound}
-use borrow.Author.Rules.{rules}
 use Rattle.flush.proofs.check.Goals as goal
 
 pub returns-in-BadSetUp : goal.returns-in-BadSetUp

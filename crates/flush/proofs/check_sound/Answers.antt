@@ -1,6 +1,5 @@
 -- `check_sound` meets its contract: the look at the block land, and the difference before its damage. Assumes nothing.
 use Rattle.flush.proofs.Ways.{sound-block, sound-damaged, sound-good}
-use borrow.Author.Rules.{rules}
 use Rattle.flush.proofs.check_sound.Goals as goal
 
 pub returns-in-BadSetUp : goal.returns-in-BadSetUp

@@ -1,7 +1,6 @@
 -- `flush` meets its contract: each refusal, and the flush. Assumes nothing.
-use mathlib.Core.Path.{refl, sym, ◌∙◌}
+use mathlib.Core.Path.{refl}
 use Rattle.flush.proofs.FlushAnswers.{refused}
-use borrow.Author.Rules.{rules}
 use Rattle.flush.proofs.flush.Goals as goal
 
 pub returns-in-ListSetUp : goal.returns-in-ListSetUp

@@ -1,6 +1,5 @@
 -- `flush_all` meets its contract: the transfer, and both handles closed. Assumes nothing.
 use Rattle.flush.proofs.FlushAnswers.{going, fewer, less, room, accepted}
-use borrow.Author.Rules.{rules}
 use Rattle.flush.proofs.flush_all.Goals as goal
 
 pub transfer-done-requires : goal.transfer-done-requires

@@ -1,7 +1,6 @@
 -- `list_share` meets its contract: at each turn the sum and what is still to come make up the whole. Assumes nothing.
 use Rattle.pair_words.proofs.Walking.{left_over}
-use Rattle.pair_words.proofs.Sharing.{Summing, sums}
-use borrow.Author.Rules.{rules}
+use Rattle.pair_words.proofs.Sharing.{Summing}
 use Rattle.pair_words.proofs.list_share.Given as goal
 
 abbrev pub invariant-loop-arena : goal.invariant-loop-arena

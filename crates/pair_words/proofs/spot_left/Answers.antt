@@ -1,6 +1,5 @@
 -- `spot_left` meets its contract: none is left, the first that is left reaches the address, or the spot stays. Assumes nothing.
 use Rattle.pair_words.proofs.Leaving.{lefts}
-use borrow.Author.Rules.{rules}
 use Rattle.pair_words.proofs.spot_left.Goals as goal
 
 pub returns-then-is_zero : goal.returns-then-is_zero

@@ -1,8 +1,5 @@
 -- `table_share` meets its contract: at each turn the sum and what is still to come make up the whole. Assumes nothing.
-use Prim.Native.Nat.{◌-◌}
-use Rattle.pair_words.proofs.Sharing.{Adding, adds}
-use borrow.Author.Rules.{rules}
-use native.Mathlib.Omega.{arith}
+use Rattle.pair_words.proofs.Sharing.{adds}
 use Rattle.pair_words.proofs.table_share.Goals as goal
 
 pub loop-i-init : goal.loop-i-init

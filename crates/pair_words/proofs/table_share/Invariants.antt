@@ -1,8 +1,6 @@
 -- `table_share` meets its contract: at each turn the sum and what is still to come make up the whole. Assumes nothing.
 use Prim.Native.Nat.{◌-◌}
-use Rattle.pair_words.proofs.Sharing.{Adding, adds}
-use borrow.Author.Rules.{rules}
-use native.Mathlib.Omega.{arith}
+use Rattle.pair_words.proofs.Sharing.{Adding}
 use Rattle.pair_words.proofs.table_share.Given as goal
 
 abbrev pub invariant-loop-i : goal.invariant-loop-i

@@ -1,10 +1,6 @@
 -- `Pair::check` meets its contract: the first check that fails. Assumes nothing.
-use mathlib.Core.Bool.{true}
-use mathlib.Core.Path.{◌≡◌}
 use Rattle.units.proofs.Cases.{set-up-true, sound-true}
-use Rattle.pair.specs.Calls.{set_up}
 use Rattle.pair.proofs.Checking.{check_up, check-low, check-align, check-arena, check-positive, check-words, check-table, check-rising, check-walk, check-good}
-use borrow.Author.Rules.{rules}
 use Rattle.pair.proofs.Pair.check.Goals as goal
 
 pub returns-in_default : goal.returns-in_default

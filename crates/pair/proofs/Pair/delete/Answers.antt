@@ -2,7 +2,6 @@
 use Rattle.pair.specs.Calls.{changed}
 use Rattle.pair.proofs.Calling.{saw-checked, answers-5, answers-6}
 use Rattle.pair.proofs.DeleteAnswers.{is-delete}
-use borrow.Author.Rules.{rules}
 use Rattle.pair.proofs.Pair.delete.Goals as goal
 
 pub delete_at-requires : goal.delete_at-requires

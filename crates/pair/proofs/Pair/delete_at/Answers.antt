@@ -1,8 +1,7 @@
 -- `Pair::delete_at` meets its contract: the range rule. Assumes nothing.
 use Rattle.pair.specs.Calls.{changed}
-use Rattle.pair.proofs.Asking.{asked-align, asked-positive, asked-4, asked-good}
+use Rattle.pair.proofs.Asking.{asked-align, asked-positive, asked-4}
 use Rattle.pair.proofs.DeleteAnswers.{is-delete}
-use borrow.Author.Rules.{rules}
 use Rattle.pair.proofs.Pair.delete_at.Goals as goal
 
 pub divided-requires : goal.divided-requires

@@ -1,6 +1,5 @@
 -- `Pair::delete_good` meets its contract: the list first, then the table. Assumes nothing.
 use Rattle.pair.proofs.DeleteAnswers.{in-list-takes, in-list-0, not-in-list}
-use borrow.Author.Rules.{rules}
 use Rattle.pair.proofs.Pair.delete_good.Goals as goal
 
 pub take_listed-list-requires : goal.take_listed-list-requires

@@ -1,7 +1,6 @@
 -- `Pair::delete_tabled` meets its contract: what the table's edit answers. Assumes nothing.
 use Rattle.pair.proofs.Asking.{order, order_le}
 use Rattle.pair.proofs.DeleteAnswers.{cut_sorted, cut-spot, none-holds, after_none, spills, after-spill, cut-room, cut-0}
-use borrow.Author.Rules.{rules}
 use Rattle.pair.proofs.Pair.delete_tabled.Goals as goal
 
 pub cut_out-requires-clause-sorted : goal.cut_out-requires-clause-sorted

@@ -1,7 +1,6 @@
 -- `Pair::enter` meets its contract: into the block land, and where it has no room into the list. Assumes nothing.
 use Rattle.pair.specs.inner.Inserts.{closed_by}
-use Rattle.pair.proofs.Entering.{enter-sorted, enter-full, enter-room, enter-blocked}
-use borrow.Author.Rules.{rules}
+use Rattle.pair.proofs.Entering.{enter-sorted, enter-room, enter-blocked}
 use Rattle.pair.proofs.Pair.enter.Goals as goal
 
 pub join_at-requires-clause-sorted : goal.join_at-requires-clause-sorted

@@ -1,7 +1,6 @@
 -- `Pair::enter_list` meets its contract: the spot that is left, and the range put in. Assumes nothing.
 use Rattle.pair.specs.inner.Inserts.{closed_by}
-use Rattle.pair.proofs.Entering.{enter-left, enter-asks, enter-listed}
-use borrow.Author.Rules.{rules}
+use Rattle.pair.proofs.Entering.{enter-asks}
 use Rattle.pair.proofs.Pair.enter_list.Goals as goal
 
 pub join_at-joined-requires-clause-held : goal.join_at-joined-requires-clause-held

@@ -1,7 +1,6 @@
 -- `Pair::find` meets its contract: 5, 6, and then the ranges chosen. Assumes nothing.
 use Rattle.pair.proofs.Calling.{saw-checked}
 use Rattle.pair.proofs.FindAnswers.{find-5, find-6}
-use borrow.Author.Rules.{rules}
 use Rattle.pair.proofs.Pair.find.Goals as goal
 
 pub find_at-requires : goal.find_at-requires

@@ -1,7 +1,6 @@
 -- `Pair::find_at` meets its contract: 4, 2, the find in the list, the find in the block land. Assumes nothing.
-use Rattle.pair.proofs.FindAnswers.{Asked, find-align, find-positive, find-4, find-ready, find-ordered, find-2, list-chosen, find-list, block-chosen, find-block}
+use Rattle.pair.proofs.FindAnswers.{find-align, find-positive, find-4, find-ready, find-ordered, find-2, list-chosen, find-list, block-chosen, find-block}
 use mathlib.Core.Path.{◌∙◌}
-use borrow.Author.Rules.{rules}
 use Rattle.pair.proofs.Pair.find_at.Goals as goal
 
 pub by_bit-requires : goal.by_bit-requires

@@ -1,6 +1,5 @@
 -- `Pair::find_in_block` meets its contract: the range as it stands, and a part of it taken out. Assumes nothing.
 use Rattle.pair.proofs.FindParts.{block_within, block-kept, block-takes, block_0}
-use borrow.Author.Rules.{rules}
 use Rattle.pair.proofs.Pair.find_in_block.Goals as goal
 
 pub part-part-requires : goal.part-part-requires

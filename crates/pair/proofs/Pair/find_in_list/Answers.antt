@@ -1,6 +1,5 @@
 -- `Pair::find_in_list` meets its contract: the range as it stands, and a part of it taken out. Assumes nothing.
 use Rattle.pair.proofs.FindParts.{list-within, list-kept, list-takes, list-0}
-use borrow.Author.Rules.{rules}
 use Rattle.pair.proofs.Pair.find_in_list.Goals as goal
 
 pub part-part-requires : goal.part-part-requires

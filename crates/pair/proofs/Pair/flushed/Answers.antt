@@ -2,7 +2,6 @@
 use mathlib.Core.Path.{refl}
 use Rattle.flush.proofs.FlushAnswers.{going, fewer, less, room, accepted}
 use Rattle.pair.proofs.Entering.{flushed-counts}
-use borrow.Author.Rules.{rules}
 use Rattle.pair.proofs.Pair.flushed.Goals as goal
 
 pub transfer-done-requires : goal.transfer-done-requires

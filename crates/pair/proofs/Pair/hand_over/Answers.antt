@@ -1,7 +1,6 @@
 -- `Pair::hand_over` meets its contract. Assumes nothing.
 use Rattle.pair.proofs.HandsOver.{over-asks, over-takes, over-0}
 use Rattle.pair.proofs.LandEdits.{join-closed}
-use borrow.Author.Rules.{rules}
 use Rattle.pair.proofs.Pair.hand_over.Goals as goal
 
 pub join_at-joined-requires-clause-held : goal.join_at-joined-requires-clause-held

@@ -2,7 +2,6 @@
 use Rattle.pair.specs.Calls.{changed}
 use Rattle.pair.proofs.Calling.{saw-checked, answers-5, answers-6}
 use Rattle.pair.proofs.Inserting.{is-insert}
-use borrow.Author.Rules.{rules}
 use Rattle.pair.proofs.Pair.insert.Goals as goal
 
 pub insert_at-requires : goal.insert_at-requires

@@ -1,8 +1,7 @@
 -- `Pair::insert_at` meets its contract: 4, 1, and the range put in. Assumes nothing.
 use Rattle.pair.specs.Calls.{changed}
 use Rattle.pair.proofs.Asking.{asked-align, asked-positive, asked-4, asked-good}
-use Rattle.pair.proofs.Inserting.{is-insert, taken-1, not_taken}
-use borrow.Author.Rules.{rules}
+use Rattle.pair.proofs.Inserting.{is-insert, taken-1}
 use Rattle.pair.proofs.Pair.insert_at.Goals as goal
 
 pub by_bit-requires : goal.by_bit-requires

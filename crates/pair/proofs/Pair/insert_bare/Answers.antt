@@ -1,6 +1,5 @@
 -- `Pair::insert_bare` meets its contract: the flush, the range put in, and both handles closed. Assumes nothing.
 use Rattle.pair.proofs.InsertFlushed.{bare-placed, bare-open, bare-0}
-use borrow.Author.Rules.{rules}
 use Rattle.pair.proofs.Pair.insert_bare.Goals as goal
 
 pub prepared-ready-requires : goal.prepared-ready-requires

@@ -1,6 +1,5 @@
 -- `Pair::prepared` meets its contract: the place that was kept, or one looked for. Assumes nothing.
 use Rattle.pair.proofs.Preparing.{prepare-ordered, prepare-same}
-use borrow.Author.Rules.{rules}
 use Rattle.pair.proofs.Pair.prepared.Goals as goal
 
 pub returns-then-same : goal.returns-then-same

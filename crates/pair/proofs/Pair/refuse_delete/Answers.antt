@@ -1,6 +1,5 @@
 -- `Pair::refuse_delete` meets its contract: 7 where every byte is free, else 1. Assumes nothing.
 use Rattle.pair.proofs.DeleteNowhere.{nowhere-order, nowhere-tabled, nowhere-listed, nowhere-sum, nowhere-7, nowhere-1}
-use borrow.Author.Rules.{rules}
 use Rattle.pair.proofs.Pair.refuse_delete.Goals as goal
 
 pub list_share-listed-requires : goal.list_share-listed-requires

@@ -1,6 +1,5 @@
 -- `Pair::set_up` meets its contract. Assumes nothing.
 use Rattle.pair.proofs.Checking.{ups}
-use borrow.Author.Rules.{rules}
 use Rattle.pair.proofs.Pair.set_up.Goals as goal
 
 pub returns : goal.returns

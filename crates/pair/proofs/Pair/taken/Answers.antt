@@ -1,6 +1,5 @@
 -- `Pair::taken` meets its contract: the list, then the table. Assumes nothing.
-use Rattle.pair.proofs.Inserting.{inserts, list-asks, table-asks}
-use borrow.Author.Rules.{rules}
+use Rattle.pair.proofs.Inserting.{list-asks, table-asks}
 use Rattle.pair.proofs.Pair.taken.Goals as goal
 
 pub overlaps_at-requires-clause-held : goal.overlaps_at-requires-clause-held

@@ -1,6 +1,5 @@
 -- `take_tabled` meets its contract. Assumes nothing.
 use Rattle.pair.proofs.LandEdits.{take-tabled-room, take-tabled-done}
-use borrow.Author.Rules.{rules}
 use Rattle.pair.proofs.edits.take_tabled.Goals as goal
 
 pub minus-bytes-requires : goal.minus-bytes-requires

@@ -1,6 +1,5 @@
 -- `choose_side` meets its contract: by the ranges that there are. Assumes nothing.
 use Rattle.pair.proofs.Sides.{sides}
-use borrow.Author.Rules.{rules}
 use Rattle.pair.proofs.find.choose_side.Goals as goal
 
 pub returns-then-is_zero-2 : goal.returns-then-is_zero-2

@@ -1,6 +1,5 @@
 -- `first` meets its contract: each aim has its goal. Assumes nothing.
 use Rattle.pair_words.proofs.Seeking.{first-nothing, first_reach, first-from, first-find}
-use borrow.Author.Rules.{rules}
 use Rattle.pair_words.proofs.walks.first.Goals as goal
 
 pub returns-in-Nothing : goal.returns-in-Nothing

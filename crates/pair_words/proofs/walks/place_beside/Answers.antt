@@ -1,8 +1,5 @@
 -- `place_beside` meets its contract: at each turn the place from here on is that from the first on. Assumes nothing.
-use Prim.Native.Nat.{◌-◌}
-use native.Mathlib.Omega.{arith}
-use Rattle.pair_words.proofs.Besides.{Placing, placings}
-use borrow.Author.Rules.{rules}
+use Rattle.pair_words.proofs.Besides.{placings}
 use Rattle.pair_words.proofs.walks.place_beside.Goals as goal
 
 pub returns-then-le : goal.returns-then-le

@@ -1,7 +1,5 @@
 -- `seek` meets its contract: nothing before the cursor fits. Assumes nothing.
-use Prim.Native.Nat.{◌+◌, ◌-◌}
-use Rattle.pair_words.proofs.Seeking.{Pursuing, pursue-near, pursue-less, pursue-order, pursue-overlaps, pursue-at, pursue-next, pursuits}
-use borrow.Author.Rules.{rules}
+use Rattle.pair_words.proofs.Seeking.{pursue-near, pursue-less, pursue-order, pursue-overlaps, pursue-at, pursue-next, pursuits}
 use mathlib.Core.Path.{ap}
 use mathlib.Core.Bool.{not}
 use Rattle.pair_words.proofs.walks.seek.Goals as goal

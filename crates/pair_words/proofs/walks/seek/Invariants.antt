@@ -1,7 +1,6 @@
 -- `seek` meets its contract: nothing before the cursor fits. Assumes nothing.
 use Prim.Native.Nat.{◌+◌, ◌-◌}
-use Rattle.pair_words.proofs.Seeking.{Pursuing, pursue-near, pursue-less, pursue-order, pursue-overlaps, pursue-at, pursue-next, pursuits}
-use borrow.Author.Rules.{rules}
+use Rattle.pair_words.proofs.Seeking.{Pursuing}
 use Rattle.pair_words.proofs.walks.seek.Given as goal
 
 abbrev pub invariant-loop-arena : goal.invariant-loop-arena

@@ -1,7 +1,5 @@
 -- `sound_on` meets its contract: at each turn what is to come of the list and of the table overlaps exactly if all does. Assumes nothing.
-use Prim.Native.Nat.{◌+◌, ◌-◌}
-use Rattle.pair_words.proofs.Judging.{Walking, on-less, on-next, judges}
-use borrow.Author.Rules.{rules}
+use Rattle.pair_words.proofs.Judging.{on-less, on-next, judges}
 use mathlib.Core.Path.{ap}
 use mathlib.Core.Bool.{not}
 use Rattle.pair_words.proofs.walks.sound_on.Goals as goal

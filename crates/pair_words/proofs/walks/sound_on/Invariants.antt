@@ -1,7 +1,6 @@
 -- `sound_on` meets its contract: at each turn what is to come of the list and of the table overlaps exactly if all does. Assumes nothing.
 use Prim.Native.Nat.{◌+◌, ◌-◌}
-use Rattle.pair_words.proofs.Judging.{Walking, on-less, on-next, judges}
-use borrow.Author.Rules.{rules}
+use Rattle.pair_words.proofs.Judging.{Walking}
 use Rattle.pair_words.proofs.walks.sound_on.Given as goal
 
 abbrev pub invariant-loop-arena : goal.invariant-loop-arena

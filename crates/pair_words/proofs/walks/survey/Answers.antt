@@ -1,6 +1,5 @@
 -- `survey` meets its contract: what was sought, and the walk on from there. Assumes nothing.
 use Rattle.pair_words.proofs.Judging.{surveys}
-use borrow.Author.Rules.{rules}
 use Rattle.pair_words.proofs.walks.survey.Goals as goal
 
 pub returns-in_default : goal.returns-in_default

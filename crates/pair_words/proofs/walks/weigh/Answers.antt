@@ -1,8 +1,5 @@
 -- `weigh` meets its contract: at each turn what is kept of the rest is what is kept of the whole list. Assumes nothing.
-use Prim.Native.Nat.{◌+◌, ◌-◌}
-use mathlib.Core.Logic.{⊎_elim}
-use Rattle.pair_words.proofs.Weighing.{Pondering, ponder-done, ponder-near, ponder-less, ponder-sized, ponder-overlaps, ponder-taken, ponder-left, ponders}
-use borrow.Author.Rules.{rules}
+use Rattle.pair_words.proofs.Weighing.{ponder-done, ponder-near, ponder-less, ponder-sized, ponder-overlaps, ponder-taken, ponder-left, ponders}
 use mathlib.Core.Path.{ap}
 use mathlib.Core.Bool.{not}
 use Rattle.pair_words.proofs.walks.weigh.Goals as goal
@@ -38,12 +35,12 @@ loop-arena-smaller c =
 pub loop-arena-preserved : goal.loop-arena-preserved
 loop-arena-preserved c =
     elim c.if-takes.branch [
-      then-takes w ↦ ponder-taken _ _ c.requires.ready c.args.chain _ _ _ _ _ _ _ c.loop-arena.invariant
-      _ c.is_zero.ensures (ap not c.loop-arena-test.true) _ c.range_at.ensures _ _ c.in-Found.is
-      _ c.new-here.ensures _ c.place_beside.ensures _ c.in-At.is _ c.takes.ensures _ c.on-cur.ensures w.if-takes.true _ w.kept-is
-    | else-takes w ↦ ponder-left _ _ c.requires.ready c.args.chain _ _ _ _ _ _ _ c.loop-arena.invariant
-      _ c.is_zero.ensures (ap not c.loop-arena-test.true) _ c.range_at.ensures _ _ c.in-Found.is
-      _ c.new-here.ensures _ c.place_beside.ensures _ c.in-At.is _ c.takes.ensures _ c.on-cur.ensures w.if-takes.false _ w.kept-is
+      | then-takes w ↦ ponder-taken _ _ c.requires.ready c.args.chain _ _ _ _ _ _ _ c.loop-arena.invariant
+          _ c.is_zero.ensures (ap not c.loop-arena-test.true) _ c.range_at.ensures _ _ c.in-Found.is
+          _ c.new-here.ensures _ c.place_beside.ensures _ c.in-At.is _ c.takes.ensures _ c.on-cur.ensures w.if-takes.true _ w.kept-is
+      | else-takes w ↦ ponder-left _ _ c.requires.ready c.args.chain _ _ _ _ _ _ _ c.loop-arena.invariant
+          _ c.is_zero.ensures (ap not c.loop-arena-test.true) _ c.range_at.ensures _ _ c.in-Found.is
+          _ c.new-here.ensures _ c.place_beside.ensures _ c.in-At.is _ c.takes.ensures _ c.on-cur.ensures w.if-takes.false _ w.kept-is
     ]
 
 pub returns-in_default-counts : goal.returns-in_default-counts

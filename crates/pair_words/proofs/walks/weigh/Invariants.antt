@@ -1,8 +1,6 @@
 -- `weigh` meets its contract: at each turn what is kept of the rest is what is kept of the whole list. Assumes nothing.
 use Prim.Native.Nat.{◌+◌, ◌-◌}
-use mathlib.Core.Logic.{⊎_elim}
-use Rattle.pair_words.proofs.Weighing.{Pondering, ponder-done, ponder-near, ponder-less, ponder-sized, ponder-overlaps, ponder-taken, ponder-left, ponders}
-use borrow.Author.Rules.{rules}
+use Rattle.pair_words.proofs.Weighing.{Pondering}
 use Rattle.pair_words.proofs.walks.weigh.Given as goal
 
 abbrev pub invariant-loop-arena : goal.invariant-loop-arena

@@ -1,12 +1,9 @@
 -- `feed` meets its contract: line after line. Assumes nothing.
 use Prim.Native.Nat.{◌-◌}
 use mathlib.Core.Bool.{false}
-use mathlib.Core.Path.{◌≡◌, refl}
-use native.Mathlib.Omega.{arith}
-use borrow.Author.Rules.{rules}
+use mathlib.Core.Path.{◌≡◌}
 use lib.ListN.{length}
 use Rattle.script.specs.inner.Feeding.{Goes}
-use Rattle.script.proofs.Going.{goes-start, goes_then, closes-all, closes-full}
 use Rattle.script.proofs.Script.feed.Given as goal
 
 abbrev pub invariant-loop-fed : goal.invariant-loop-fed

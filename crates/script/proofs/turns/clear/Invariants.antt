@@ -1,9 +1,7 @@
 -- `clear` meets its contract: the words from the first on are 0. Assumes nothing.
-use native.Mathlib.Omega.{arith}
-use borrow.Author.Rules.{rules}
 use lib.ListN.{length}
 use Prim.Native.Nat.{◌-◌}
-use Rattle.script.proofs.Ways.{Cleared, clear-start, clear_next, clear-done}
+use Rattle.script.proofs.Ways.{Cleared}
 use Rattle.script.proofs.turns.clear.Given as goal
 
 abbrev pub invariant-loop-i : goal.invariant-loop-i

@@ -1,7 +1,6 @@
 -- `describe` meets its contract. Assumes nothing.
 use native.Mathlib.Omega.{arith}
 use Rattle.script.proofs.Asking.{described-fault, described-sound}
-use borrow.Author.Rules.{rules}
 use Rattle.script.proofs.turns.describe.Goals as goal
 
 pub returns-then-met-gt2 : goal.returns-then-met-gt2

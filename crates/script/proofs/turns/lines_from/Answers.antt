@@ -1,9 +1,6 @@
 -- `lines_from` meets its contract: the lines up to an address stand in the buffer. Assumes nothing.
-use Prim.Native.Nat.{◌-◌}
 use native.Mathlib.Omega.{arith}
-use borrow.Author.Rules.{rules}
-use lib.ListN.{length}
-use Rattle.script.proofs.Telling.{Telling, tell-start, tell-next, tell-end, tell-full, tell-less}
+use Rattle.script.proofs.Telling.{tell-next, tell-end, tell-full, tell-less}
 use Rattle.script.proofs.turns.lines_from.Goals as goal
 
 pub returns-then-met-ne0 : goal.returns-then-met-ne0

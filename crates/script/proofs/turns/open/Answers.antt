@@ -1,6 +1,5 @@
 -- `open` meets its contract. Assumes nothing.
 use Rattle.script.proofs.Turning.{arena-opens, arena-refused}
-use borrow.Author.Rules.{rules}
 use Rattle.script.proofs.turns.open.Goals as goal
 
 pub returns-then-opened-eq0 : goal.returns-then-opened-eq0

@@ -1,6 +1,5 @@
 -- `put_found` meets its contract. Assumes nothing.
 use Rattle.script.proofs.Ways.{says-found}
-use borrow.Author.Rules.{rules}
 use Rattle.script.proofs.turns.put_found.Goals as goal
 
 pub returns : goal.returns
