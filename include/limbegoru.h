@@ -29,7 +29,8 @@
 #ifndef LIMBEGORU_H
 #define LIMBEGORU_H
 
-/* Also refused: 32-bit pointers, and compilers for Windows (_M_X64 among them), where calls pass structs in another way. */
+/* Also refused: 32-bit pointers, and compilers for Windows (_M_X64 among them), where calls pass structs in another way. The
+ * archive is made for x86-64-v2: that the processor has SSE4.2 is not tested here. */
 #if !defined(__x86_64__) || defined(__ILP32__) || defined(_WIN32) || defined(__CYGWIN__)
 #error "liblimbegoru.a is for x86-64 with 64-bit pointers and the System V calling convention"
 #endif
