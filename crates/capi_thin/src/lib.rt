@@ -1,6 +1,6 @@
 // The calls for a host in C that keeps the list handle in a structure of its own: the next one is stored in its place.
 //
-// Every function here is proved by hand to equal the call of `thin` that it makes, and the crate assumes nothing of its own.
+// Every function here is proved to equal the call of `thin` that it makes, and the crate assumes nothing of its own.
 #![tactic(auto)]
 
 ghost use Rattle.std.specs.Prelude.{◌≡◌};

@@ -1,7 +1,6 @@
 -- `refuse` meets its contract. Assumes nothing.
 use Rattle.block_land.proofs.Land.{block_land}
 use Rattle.capi.proofs.GivenModes.{refused-mode}
-use borrow.Author.Rules.{rules}
 use Rattle.capi.proofs.block.refuse.Goals as goal
 
 pub returns : goal.returns

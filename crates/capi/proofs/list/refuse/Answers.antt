@@ -1,7 +1,6 @@
 -- `refuse` meets its contract. Assumes nothing.
 use Rattle.list_land.proofs.Land.{list_land}
 use Rattle.capi.proofs.GivenModes.{refused-mode}
-use borrow.Author.Rules.{rules}
 use Rattle.capi.proofs.list.refuse.Goals as goal
 
 pub returns : goal.returns
