@@ -49,6 +49,7 @@ pub enum SoughtBeside {
 }
 
 // The walk from head up to the first range that fits.
+#[inline(always)]
 fn seek(
     arena: Arena,
     words: &[u64],

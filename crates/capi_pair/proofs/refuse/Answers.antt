@@ -1,6 +1,5 @@
 -- `refuse` meets its contract. Assumes nothing.
 use Rattle.capi_pair.proofs.PairRefusing.{refused-mode}
-use borrow.Author.Rules.{rules}
 use Rattle.capi_pair.proofs.refuse.Goals as goal
 
 pub returns : goal.returns
