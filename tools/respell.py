@@ -1,7 +1,7 @@
 #!/usr/bin/env python3
 """Brings the repository's own names in specs/ and proofs/ to snake case.
 
-    python3 tools/respell.py        at the top, once, after /opt/rattle/port/port.py
+    python3 tools/respell.py        at the top, once, after the kit's port.py
 
 A name that an .antt file of the repository declares is respelled wherever it stands: in the .antt files, in the clauses and
 `ghost use` items of the .rt files, in the must-fail edits, and between backticks in the pages and comments. `goodAlign` becomes
