@@ -5,11 +5,12 @@ use mathlib.Core.Path.{◌≡◌, refl, sym, subst}
 use native.Mathlib.Omega.{arith}
 use lib.Dec.{leb, ltb, eqb}
 use borrow.Author.Tests.{eqb-true, leb-true, lt-ltb, le-ltb, le-leb, lt-leb, eq-eqb, ne_eqb}
+use Rattle.std.specs.Prelude.{Result, Ok, Err}
 use Rattle.units.specs.LowWater.{unset, noted, sound_low}
 use Rattle.units.specs.inner.Parts.{soundness_of}
 use Rattle.units.specs.declared.Size.{Size}
 use Rattle.units.specs.declared.low_water.LowWater.{LowWater}
-use Rattle.units.specs.declared.rules.Soundness.{Soundness}
+use Rattle.units.specs.declared.refusals.Refusal.{Refusal}
 use Rattle.units.proofs.Tests.{by, tests, and_left, and_right}
 
 -- THE WAYS OUT
@@ -26,29 +27,29 @@ module _ (q : LowWater) (n : Size) where
   pub note-kept : (q.filled ≡ 0 → ⊥) → q.low.0 ≤ n.0 → record { filled = 1; low = q.low } ≡ noted q n.0
   note-kept f l = rw (ne_eqb q.filled 0 f, le-ltb n.0 q.low.0 l)
 
-  pub low-above : n.0 < q.low.0 → Soundness.Damaged ≡ soundness_of (sound_low q n.0)
+  pub low-above : n.0 < q.low.0 → Err Refusal.Damaged ≡ soundness_of (sound_low q n.0)
   unfolding sound_low
   low-above l = rw (lt-leb q.low.0 n.0 l)
 
   module _ (l : q.low.0 ≤ n.0) where
-    pub low-unset : q.filled ≡ 0 → n.0 ≤ 0 → Soundness.Sound ≡ soundness_of (sound_low q n.0)
+    pub low-unset : q.filled ≡ 0 → n.0 ≤ 0 → Ok tt ≡ soundness_of (sound_low q n.0)
     unfolding sound_low
     low-unset f z =
         let k : q.low.0 ≡ 0 = omega arith in
         rw (le-leb q.low.0 n.0 l, eq-eqb q.filled 0 f, eq-eqb q.low.0 0 k, eq-eqb n.0 0 (omega arith))
 
-    pub low-unset-bytes : q.filled ≡ 0 → 0 < n.0 → Soundness.Damaged ≡ soundness_of (sound_low q n.0)
+    pub low-unset-bytes : q.filled ≡ 0 → 0 < n.0 → Err Refusal.Damaged ≡ soundness_of (sound_low q n.0)
     unfolding sound_low
     low-unset-bytes f z =
         by (eqb q.low.0 0)
         (λ k. rw (le-leb q.low.0 n.0 l, eq-eqb q.filled 0 f, k, ne_eqb n.0 0 (λ e. omega arith)))
         (λ k. rw (le-leb q.low.0 n.0 l, eq-eqb q.filled 0 f, k))
 
-    pub low-set : (q.filled ≡ 0 → ⊥) → q.filled ≡ 1 → Soundness.Sound ≡ soundness_of (sound_low q n.0)
+    pub low-set : (q.filled ≡ 0 → ⊥) → q.filled ≡ 1 → Ok tt ≡ soundness_of (sound_low q n.0)
     unfolding sound_low
     low-set f g = rw (le-leb q.low.0 n.0 l, ne_eqb q.filled 0 f, eq-eqb q.filled 1 g)
 
-    pub low-no-mark : (q.filled ≡ 0 → ⊥) → (q.filled ≡ 1 → ⊥) → Soundness.Damaged ≡ soundness_of (sound_low q n.0)
+    pub low-no-mark : (q.filled ≡ 0 → ⊥) → (q.filled ≡ 1 → ⊥) → Err Refusal.Damaged ≡ soundness_of (sound_low q n.0)
     unfolding sound_low
     low-no-mark f g = rw (le-leb q.low.0 n.0 l, ne_eqb q.filled 0 f, ne_eqb q.filled 1 g)
 

@@ -3,7 +3,7 @@ ghost use Rattle.std.specs.Prelude.{◌≡◌};
 ghost use Rattle.units.specs.LowWater.{unset, noted, sound_low};
 ghost use Rattle.units.specs.inner.Parts.{soundness_of};
 
-use crate::{Size, Soundness};
+use crate::{Refusal, Size};
 
 // The mark, 0 or 1, and low water; both 0 as long as no accepted call has left the land non-empty.
 #[repr(C)]
@@ -49,21 +49,21 @@ impl LowWater {
     }
 
     // Whether a sound land with so many free bytes may have it.
-    pub fn check(self, bytes: Size) -> Soundness
+    pub fn check(self, bytes: Size) -> Result<(), Refusal>
         ensures { result ≡ soundness_of (sound_low self bytes.0) }
     {
         if bytes.0 < self.low.0 {
-            return Soundness::Damaged;
+            return Err(Refusal::Damaged);
         }
         if self.filled == 0 {
             if 0 < bytes.0 {
-                return Soundness::Damaged;
+                return Err(Refusal::Damaged);
             }
-            return Soundness::Sound;
+            return Ok(());
         }
         if self.filled == 1 {
-            return Soundness::Sound;
+            return Ok(());
         }
-        Soundness::Damaged
+        Err(Refusal::Damaged)
     }
 }

@@ -6,17 +6,18 @@ use mathlib.Core.Option.{Option, none, some}
 use mathlib.Core.Path.{◌≡◌, refl, sym, ap, ap₂, ◌∙◌}
 use native.Mathlib.Omega.{arith}
 use lib.Dec.{eqb}
+use Rattle.std.specs.Prelude.{Result, Ok, Err}
 use Rattle.units.specs.inner.Aims.{none_range, find_aim, aim_of}
 use Rattle.units.specs.Rules.{find_check, find_size}
-use Rattle.units.specs.inner.Parts.{set_up_of}
+use Rattle.units.specs.inner.Parts.{Checked, set_up_of}
 use Rattle.units.specs.declared.Mode.{Mode}
 use Rattle.units.specs.declared.Range as units
 use Rattle.units.specs.declared.Size.{Size}
 use Rattle.units.specs.declared.Which.{Which}
 use Rattle.units.specs.declared.aims.Aim.{Aim}
 use Rattle.units.specs.declared.rules.Arena.{Arena}
-use Rattle.units.specs.declared.rules.SetUp.{SetUp}
-use Rattle.units.specs.declared.rules.SizeCheck.{SizeCheck}
+use Rattle.units.specs.declared.refusals.Refusal.{Refusal}
+use Rattle.units.specs.declared.rules.SizeError.{SizeError}
 use Rattle.units.proofs.Cases.{set-up-false}
 use Rattle.model.specs.Calls.{Call, find, good_size_in, find_size_in}
 use Rattle.model.specs.inner.Lists.{delete_from, plain}
@@ -46,7 +47,7 @@ module _ {H L S C F : Type 0} (I : Land H L S C F) (h : H) (ws : List ℕ) where
 
   -- 5 and 6, from the two tests
   module _ (c : Call) where
-    pub find-5 : (r : SetUp) → r ≡ set_up_of (I.set-up h ws) → r ≡ SetUp.Bad → (v : F) → v ≡ I.find-made h 5 none_range none_range → Finds I v ws (I.does c h ws)
+    pub find-5 : (r : Checked) → r ≡ set_up_of (I.set-up h ws) → r ≡ Err Refusal.SetUp → (v : F) → v ≡ I.find-made h 5 none_range none_range → Finds I v ws (I.does c h ws)
     find-5 r e f v k = refused-find I h ws c 5 (bad-is-5 I h ws c (set-up-false (I.set-up h ws) r e f)) v k ws refl
 
     pub find-6 : I.set-up h ws ≡ true → I.sound h ws ≡ false → (v : F) → v ≡ I.find-made h 6 none_range none_range → Finds I v ws (I.does c h ws)
@@ -65,26 +66,26 @@ module _ {H L S C F : Type 0} (I : Land H L S C F) (h : H) (ws : List ℕ) where
   size_is n a ea m em = em ∙ ap (λ (x : Arena). find_size x.align.0 n.0) (ea ∙ I.arena-is h ws)
 
   -- A SOUND LAND, THE SIZE CHECKED
-  module _ (w : Which) (n : Size) (a : Arena) (ea : a ≡ I.arena-in h) (r : SizeCheck) (er : r ≡ find_check w a.base.0 a.limit.0 a.align.0 n.0)
+  module _ (w : Which) (n : Size) (a : Arena) (ea : a ≡ I.arena-in h) (r : Result (Unit {0}) SizeError) (er : r ≡ find_check w a.base.0 a.limit.0 a.align.0 n.0)
       (aim : Aim) (s : S) (k : Kept I h ws aim s) where
-    pub find-4 : (r ≡ SizeCheck.Good → ⊥) → (mode : Mode) (v : F) → v ≡ I.find-made h 4 none_range none_range →
+    pub find-4 : (r ≡ Ok tt → ⊥) → (mode : Mode) (v : F) → v ≡ I.find-made h 4 none_range none_range →
         Finds I v ws (I.does (find w n.0 mode) h ws)
     find-4 t mode v e =
         let b = I.layout.arena h ws in
         let z = size-refused b w n.0 (size-bad b a (ea ∙ I.arena-is h ws) w n.0 r er t) in
         refused-find I h ws (find w n.0 mode) 4 (step-refused I h ws aim s k (find w n.0 mode) 4 refl (rw z)) v e ws refl
 
-    module _ (g : r ≡ SizeCheck.Good) where
+    module _ (g : r ≡ Ok tt) where
       pub find-ready : (m : Size) → m.0 ≡ find_size a.align.0 n.0 → aim ≡ find_aim r w m → Asked w n s
       find-ready m em f =
-          let e : aim ≡ find-aim w n = f ∙ ap (λ (x : SizeCheck). find_aim x w m) g ∙ ap (λ (x : ℕ). Aim.Find w (record { 0 = x })) (size_is n a ea m em) in
+          let e : aim ≡ find-aim w n = f ∙ ap (λ (x : Result (Unit {0}) SizeError). find_aim x w m) g ∙ ap (λ (x : ℕ). Aim.Find w (record { 0 = x })) (size_is n a ea m em) in
           (rw e at k, size-good (I.layout.arena h ws) a (ea ∙ I.arena-is h ws) w n.0 r er g)
 
       -- of what a find asks for
       pub find-asked : aim ≡ aim_of (I.arena-in h) (Aim.Find w n) → Asked w n s
       find-asked f =
           let e : aim ≡ aim_of a (Aim.Find w n) = f ∙ ap (λ (x : Arena). aim_of x (Aim.Find w n)) (sym ea) in
-          find-ready (record { 0 = find_size a.align.0 n.0 }) refl (e ∙ ap (λ (x : SizeCheck). find_aim x w (record { 0 = find_size a.align.0 n.0 })) (sym er))
+          find-ready (record { 0 = find_size a.align.0 n.0 }) refl (e ∙ ap (λ (x : Result (Unit {0}) SizeError). find_aim x w (record { 0 = find_size a.align.0 n.0 })) (sym er))
 
   -- WHAT WAS KEPT IS THE RANGE CHOSEN
   module _ (w : Which) (n : Size) (s : S) (k : Kept I h ws (find-aim w n) s) where

@@ -4,6 +4,7 @@ use mathlib.Core.Bool.{Bool, true, cond, ◌&&◌}
 use mathlib.Core.List.{List}
 use mathlib.Core.Option.{none}
 use mathlib.Core.Path.{◌≡◌}
+use Rattle.std.specs.Prelude.{Result, Ok, Err}
 use Rattle.units.specs.LowWater.{sound_low}
 use Rattle.units.specs.Rules.{arena_check, good_arena}
 use Rattle.units.specs.declared.Addr.{Addr}
@@ -11,7 +12,7 @@ use Rattle.units.specs.declared.Range as units
 use Rattle.units.specs.declared.Size.{Size}
 use Rattle.units.specs.declared.aims.Aim.{Aim}
 use Rattle.units.specs.declared.rules.Arena as units-arena
-use Rattle.units.specs.declared.rules.ArenaCheck.{ArenaCheck}
+use Rattle.units.specs.declared.rules.ArenaError.{ArenaError}
 use Rattle.model.specs.Calls.{Call, Outcome}
 use Rattle.model.specs.inner.Laws.{LandLaws}
 use Rattle.model.specs.Lands.{LandLayout, land_call}
@@ -23,7 +24,7 @@ use Rattle.model.proofs.Aiming.{pick-by}
 use Rattle.model.proofs.Checks.{arena-struct}
 
 -- The rules of an arena, as the code has it.
-abbrev pub check-of : units-arena.Arena → ArenaCheck
+abbrev pub check-of : units-arena.Arena → Result (Unit {0}) ArenaError
 check-of a = arena_check a.base.0 a.limit.0 a.align.0
 
 -- Handles H, what a look answers L, what it keeps S, the results of a call C and of a find F.

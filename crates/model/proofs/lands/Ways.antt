@@ -3,16 +3,16 @@ use Prim.Native.Nat.{ℕ, ◌≤◌, ◌<◌}
 use mathlib.Core.Bool.{true, false, cond, and-true, and-false}
 use mathlib.Core.List.{List}
 use mathlib.Core.Path.{◌≡◌, sym, ap, ◌∙◌}
+use Rattle.std.specs.Prelude.{Result, Ok, Err}
 use Rattle.units.specs.Rules.{good_align, good_arena}
 use Rattle.units.specs.Words.{range_of}
 use Rattle.units.specs.LowWater.{sound_low}
-use Rattle.units.specs.inner.Parts.{set_up_of, soundness_of}
+use Rattle.units.specs.inner.Parts.{Checked, set_up_of, soundness_of}
 use Rattle.units.specs.declared.Range as units
 use Rattle.units.specs.declared.aims.Aim.{Aim}
 use Rattle.units.specs.declared.rules.Arena.{Arena}
-use Rattle.units.specs.declared.rules.ArenaCheck.{ArenaCheck}
-use Rattle.units.specs.declared.rules.SetUp.{SetUp}
-use Rattle.units.specs.declared.rules.Soundness.{Soundness}
+use Rattle.units.specs.declared.rules.ArenaError.{ArenaError}
+use Rattle.units.specs.declared.refusals.Refusal.{Refusal}
 use Rattle.units.proofs.Alignments.{align-positive}
 use Rattle.units.proofs.Cases.{good-case, bad-arena, set-up-true, set-up-false, sound-true, sound-false}
 use Rattle.units.proofs.Facts.{GoodArena, arena-facts}
@@ -38,21 +38,21 @@ module _ {H L S C F : Type 0} (X : Land H L S C F) where
   pub above : (h : H) (ws : List ℕ) → X.set-up h ws ≡ true → 0 < (X.layout.arena h ws).base
   above h ws e = rw (X.arena-is h ws) at (good-facts h ws e).above
 
-  module _ (h : H) (ws : List ℕ) (a : Arena) (ea : a ≡ X.arena-in h) (x : ArenaCheck) (e : x ≡ check-of a) where
+  module _ (h : H) (ws : List ℕ) (a : Arena) (ea : a ≡ X.arena-in h) (x : Result (Unit {0}) ArenaError) (e : x ≡ check-of a) where
     here : x ≡ check-of (X.arena-in h)
     here = e ∙ ap check-of ea
 
-    pub set-up-bad : (x ≡ ArenaCheck.Good → ⊥) → SetUp.Bad ≡ set_up_of (X.set-up h ws)
+    pub set-up-bad : (x ≡ Ok tt → ⊥) → Err Refusal.SetUp ≡ set_up_of (X.set-up h ws)
     set-up-bad t = let g : good_arena (check-of (X.arena-in h)) ≡ false = rw here at (bad-arena x t) in rw (X.set-up-is h ws, g)
 
-    module _ (g : x ≡ ArenaCheck.Good) where
+    module _ (g : x ≡ Ok tt) where
       pub set-up-order : (X.arena-in h).base.0 ≤ (X.arena-in h).limit.0
       set-up-order = (arena-facts _ _ _ (sym here ∙ g)).order
 
-      pub set-up-lent : (t : SetUp) → t ≡ set_up_of (X.lent h ws) → t ≡ set_up_of (X.set-up h ws)
-      set-up-lent t et = let f : check-of (X.arena-in h) ≡ ArenaCheck.Good = sym here ∙ g in rw (X.set-up-is h ws, f) et
+      pub set-up-lent : (t : Checked) → t ≡ set_up_of (X.lent h ws) → t ≡ set_up_of (X.set-up h ws)
+      set-up-lent t et = let f : check-of (X.arena-in h) ≡ Ok tt = sym here ∙ g in rw (X.set-up-is h ws, f) et
 
-  module _ (h : H) (ws : List ℕ) (r : SetUp) (e : r ≡ set_up_of (X.set-up h ws)) (f : r ≡ SetUp.Good) where
+  module _ (h : H) (ws : List ℕ) (r : Checked) (e : r ≡ set_up_of (X.set-up h ws)) (f : r ≡ Ok tt) where
     pub good-align : good_align (X.arena-in h).align.0 ≡ true
     good-align = (good-facts h ws (set-up-true (X.set-up h ws) r e f)).align
 
@@ -60,24 +60,24 @@ module _ {H L S C F : Type 0} (X : Land H L S C F) where
     good-positive a ea = rw ea (align-positive (X.arena-in h).align.0 good-align)
 
   -- THE LOOK
-  pub look-bad : (h : H) (ws : List ℕ) (aim : Aim) (r : SetUp) → r ≡ set_up_of (X.set-up h ws) → r ≡ SetUp.Bad → X.bad ≡ X.look h ws aim
+  pub look-bad : (h : H) (ws : List ℕ) (aim : Aim) (r : Checked) → r ≡ set_up_of (X.set-up h ws) → r ≡ Err Refusal.SetUp → X.bad ≡ X.look h ws aim
   look-bad h ws aim r e f = rw (X.looks h ws aim, set-up-false (X.set-up h ws) r e f)
 
   -- low water judged: where it is bad the land is not sound, else soundness is what is judged of the memory and the counts
-  module _ (h : H) (z : Soundness) (ez : z ≡ soundness_of (sound_low (X.layout.noted h) (X.bytes h).0)) where
-    pub low-damaged : z ≡ Soundness.Damaged → (ws : List ℕ) → X.sound h ws ≡ false
+  module _ (h : H) (z : Checked) (ez : z ≡ soundness_of (sound_low (X.layout.noted h) (X.bytes h).0)) where
+    pub low-damaged : z ≡ Err Refusal.Damaged → (ws : List ℕ) → X.sound h ws ≡ false
     low-damaged g ws = rw (X.sound-is h ws, sound-false (sound_low (X.layout.noted h) (X.bytes h).0) z ez g, and-false (X.judged h ws))
 
-    pub low-sound : z ≡ Soundness.Sound → (ws : List ℕ) → X.sound h ws ≡ X.judged h ws
+    pub low-sound : z ≡ Ok tt → (ws : List ℕ) → X.sound h ws ≡ X.judged h ws
     low-sound g ws = rw (X.sound-is h ws, sound-true (sound_low (X.layout.noted h) (X.bytes h).0) z ez g, and-true (X.judged h ws))
 
-    module _ (ws : List ℕ) (aim : Aim) (r : SetUp) (e : r ≡ set_up_of (X.set-up h ws)) (f : r ≡ SetUp.Good) where
-      pub look-low : z ≡ Soundness.Damaged → X.damaged ≡ X.look h ws aim
+    module _ (ws : List ℕ) (aim : Aim) (r : Checked) (e : r ≡ set_up_of (X.set-up h ws)) (f : r ≡ Ok tt) where
+      pub look-low : z ≡ Err Refusal.Damaged → X.damaged ≡ X.look h ws aim
       look-low g = rw (X.looks h ws aim, set-up-true (X.set-up h ws) r e f, low-damaged g ws)
 
       -- what a survey answers, told as a look
       pub look-told : {T : Type 0} (tell : T → L) (damaged : T) (sound : S → T) → tell damaged ≡ X.damaged → ((s : S) → tell (sound s) ≡ X.whole s) →
-          z ≡ Soundness.Sound → (v : T) → v ≡ cond (X.judged h ws) (sound (X.keep (X.aimed h aim) (X.ranges h ws))) damaged → tell v ≡ X.look h ws aim
+          z ≡ Ok tt → (v : T) → v ≡ cond (X.judged h ws) (sound (X.keep (X.aimed h aim) (X.ranges h ws))) damaged → tell v ≡ X.look h ws aim
       look-told tell damaged sound ed es g v ev =
           let k = set-up-true (X.set-up h ws) r e f in
           by (X.judged h ws)
