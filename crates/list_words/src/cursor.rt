@@ -4,8 +4,8 @@ ghost use Rattle.units.specs.inner.Parts.{soundness_of};
 ghost use Rattle.list_words.specs.Words.{sound_walk};
 ghost use Rattle.list_words.specs.inner.Surveys.{Ready, Along, Near, start_at, onward, passed, counts_of, walk_of};
 
-use crate::{Chain, Met};
-use units::{Addr, Arena, Range, Size, Soundness};
+use crate::{Chain, Descriptor};
+use units::{Addr, Arena, Range, Refusal, Size};
 
 // Where a walk stands: the lowest base that may come, the base that comes, the ranges and bytes met.
 #[derive(Clone, Copy)]
@@ -59,30 +59,28 @@ impl Cursor {
     }
 
     // Whether the ranges and bytes met are those of the handle.
-    pub fn counts(self, chain: Chain) -> Soundness
+    pub fn counts(self, chain: Chain) -> Result<(), Refusal>
         ensures { result ≡ soundness_of (counts_of self chain) }
     {
         if chain.ranges != self.count {
-            return Soundness::Damaged;
+            return Err(Refusal::Damaged);
         }
-        if !chain.bytes.same(self.bytes) {
-            return Soundness::Damaged;
+        if chain.bytes != self.bytes {
+            return Err(Refusal::Damaged);
         }
-        Soundness::Sound
+        Ok(())
     }
 
     // Whether the whole list is sound, by the walk from here.
-    pub(crate) fn sound_on(self, arena: Arena, words: &[u64], chain: Chain) -> Soundness
+    pub(crate) fn sound_on(self, arena: Arena, words: &[u64], chain: Chain) -> Result<(), Refusal>
         requires ready { Ready arena (length words.now) }
         requires along { Along arena words.now chain.head.0 self }
         ensures { result ≡ soundness_of (sound_walk (walk_of arena words.now chain.head.0) chain.ranges chain.bytes.0) }
     {
         let mut cur = self;
         while !cur.at.is_zero() {
-            let Met::Found(end, next) = crate::range_at(arena, words, cur.low, cur.at) else {
-                return Soundness::Damaged;
-            };
-            cur = cur.on(end, next);
+            let Descriptor { limit, next } = crate::range_at(arena, words, cur.low, cur.at)?;
+            cur = cur.on(limit, next);
         }
         cur.counts(chain)
     }

@@ -8,6 +8,7 @@ pub mod cursor;
 mod seeks;
 
 ghost use Rattle.std.specs.Prelude.{◌≡◌, ◌≤◌, length};
+ghost use Rattle.units.specs.declared.refusals.Refusal.{Refusal};
 ghost use Rattle.units.specs.inner.Aims.{none_range};
 ghost use Rattle.units.specs.Words.{addr};
 ghost use Rattle.list_words.specs.Words.{range_at};
@@ -15,15 +16,21 @@ ghost use Rattle.list_words.specs.inner.Descriptors.{Standing, descriptor_at};
 ghost use Rattle.list_words.specs.inner.Surveys.{Ready, spot, at_end, survey_of};
 
 use cursor::Cursor;
-use seeks::Sought;
-use units::{Addr, Aim, Arena, Range, Size, Soundness};
+use units::{Addr, Aim, Arena, Range, Refusal, Size};
 
-// What the words say of a range at an address: its limit and the next range's base, or what is at fault.
-#[derive(Clone, Copy)]
-pub enum Met {
-    Found(Addr, Addr),
-    BadBase,
-    BadDescriptor,
+// Why the words say nothing of a range at an address: none may begin there, or what stands there is no descriptor.
+#[derive(Clone, Copy, Debug, PartialEq, Eq)]
+pub enum Fault {
+    Base,
+    Descriptor,
+}
+
+impl From<Fault> for Refusal {
+    ghost from_gives = { λ _ e. e ≡ Refusal.Damaged };
+
+    fn from(_fault: Fault) -> Refusal {
+        Refusal::Damaged
+    }
 }
 
 // What the descriptor of a range says: its limit, and the base of the next range, or 0.
@@ -47,13 +54,6 @@ pub struct Chain {
     pub head: Addr,
     pub ranges: u64,
     pub bytes: Size,
-}
-
-// What a walk over the whole list finds: damage, or the range aimed at (none, behind the last range, where there is none).
-#[derive(Clone, Copy)]
-pub enum Verdict {
-    Damaged,
-    Sound(Spot),
 }
 
 impl Spot {
@@ -82,35 +82,41 @@ impl Spot {
 }
 
 // What the words say of a range at `at`, where none may begin below `low`.
-pub fn range_at(arena: Arena, words: &[u64], low: Addr, at: Addr) -> Met
+pub fn range_at(arena: Arena, words: &[u64], low: Addr, at: Addr) -> Result<Descriptor, Fault>
     requires ready { Ready arena (length words.now) }
     requires base_le_low { arena.base.0 ≤ low.0 }
     ensures { result ≡ range_at arena.base.0 arena.limit.0 arena.align.0 words.now low.0 at.0 }
 {
     if !arena.may_begin(low, at) {
-        return Met::BadBase;
+        return Err(Fault::Base);
     }
     let i = arena.word_at(at);
     let w = words[i];
     if units::is_tagged(w) {
         let end = at.plus(Size::new(8));
         if !arena.may_end(end) {
-            return Met::BadDescriptor;
+            return Err(Fault::Descriptor);
         }
-        return Met::Found(end, units::untagged(w));
+        return Ok(Descriptor {
+            limit: end,
+            next: units::untagged(w),
+        });
     }
     let least = at.plus(Size::new(16));
-    if arena.limit.lt(least) {
-        return Met::BadDescriptor;
+    if arena.limit < least {
+        return Err(Fault::Descriptor);
     }
     let end = Addr::new(words[i + 1]);
-    if end.lt(least) {
-        return Met::BadDescriptor;
+    if end < least {
+        return Err(Fault::Descriptor);
     }
     if !arena.may_end(end) {
-        return Met::BadDescriptor;
+        return Err(Fault::Descriptor);
     }
-    Met::Found(end, units::untagged(w))
+    Ok(Descriptor {
+        limit: end,
+        next: units::untagged(w),
+    })
 }
 
 // The descriptor at the base of a range of a sound list: nothing is tested.
@@ -130,7 +136,7 @@ pub fn descriptor_at(arena: Arena, words: &[u64], at: Addr) -> Descriptor
 }
 
 // The walk of an aim that weighs each range against what it has kept.
-fn weigh(arena: Arena, words: &[u64], chain: Chain, aim: Aim) -> Verdict
+fn weigh(arena: Arena, words: &[u64], chain: Chain, aim: Aim) -> Result<Spot, Refusal>
     requires { Ready arena (length words.now) }
     ensures { result ≡ survey_of arena words.now chain aim }
 {
@@ -138,37 +144,27 @@ fn weigh(arena: Arena, words: &[u64], chain: Chain, aim: Aim) -> Verdict
     let mut kept = Spot::behind(prev);
     let mut cur = Cursor::start(arena, chain.head);
     while !cur.at.is_zero() {
-        let Met::Found(end, next) = range_at(arena, words, cur.low, cur.at) else {
-            return Verdict::Damaged;
-        };
-        let here = Range::new(cur.at, end);
+        let Descriptor { limit, next } = range_at(arena, words, cur.low, cur.at)?;
+        let here = Range::new(cur.at, limit);
         if aim.takes(kept.here, here) {
             kept = Spot { prev, here, next };
         }
         prev = here;
-        cur = cur.on(end, next);
+        cur = cur.on(limit, next);
     }
-    let Soundness::Sound = cur.counts(chain) else {
-        return Verdict::Damaged;
-    };
-    Verdict::Sound(kept.at_end(prev))
+    cur.counts(chain)?;
+    Ok(kept.at_end(prev))
 }
 
-// The one walk over the list, from head to its end.
-pub fn survey(arena: Arena, words: &[u64], chain: Chain, aim: Aim) -> Verdict
+// The one walk over the whole list, from head to its end: the range aimed at (none, behind the last range, where there is none).
+pub fn survey(arena: Arena, words: &[u64], chain: Chain, aim: Aim) -> Result<Spot, Refusal>
     requires { Ready arena (length words.now) }
     ensures { result ≡ survey_of arena words.now chain aim }
 {
     if !aim.stays() {
         return weigh(arena, words, chain, aim);
     }
-    let Sought::At(s, c) = seeks::first(arena, words, chain.head, aim) else {
-        return Verdict::Damaged;
-    };
-    let spot = s;
-    let cur = c;
-    let Soundness::Sound = cur.sound_on(arena, words, chain) else {
-        return Verdict::Damaged;
-    };
-    Verdict::Sound(spot)
+    let (spot, cur) = seeks::first(arena, words, chain.head, aim)?;
+    cur.sound_on(arena, words, chain)?;
+    Ok(spot)
 }

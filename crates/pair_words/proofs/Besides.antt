@@ -6,8 +6,9 @@ use mathlib.Core.Path.{◌≡◌, refl, sym, ap, subst, ◌∙◌}
 use native.Mathlib.Omega.{arith}
 use lib.Dec.{leb}
 use borrow.Author.Tests.{leb-true, leb-false}
+use Rattle.std.specs.Prelude.{Option, Some, None, Result, Ok, Err}
 use Rattle.units.specs.Rules.{sound_number}
-use Rattle.units.specs.inner.Parts.{soundness_of}
+use Rattle.units.specs.inner.Parts.{Checked, soundness_of}
 use Rattle.units.specs.declared.Range as units
 use Rattle.units.proofs.Tests.{by}
 use Rattle.units.proofs.Ways.{said-true, said-false}
@@ -18,7 +19,6 @@ use Rattle.block_words.specs.inner.Tallies.{pair_at, behind}
 use Rattle.block_words.proofs.Pairs.{pairs-at, pairs_end}
 use Rattle.pair_model.specs.PairLayouts.{meet}
 use Rattle.pair_words.specs.inner.Besides.{beside_of, beside_number}
-use Rattle.pair_words.specs.declared.walks.Beside.{Beside}
 use Rattle.pair_words.proofs.Meets.{meet-none, meet-pair, meet-range, meet-both}
 
 -- the loop of `place_beside`: what is said from pair i on is what is said from the first on
@@ -35,7 +35,7 @@ module _ (vs : List ℕ) (n : ℕ) (r : units.Range) (from : ℕ) where
     pub place_inside : i < n → i < capacity vs
     place_inside k = omega (arith, s.fits)
 
-    pub place_end : n ≤ i → Beside.At i ≡ beside_of r from (behind vs n from)
+    pub place_end : n ≤ i → Some i ≡ beside_of r from (behind vs n from)
     place_end k = sym (ap (beside_of r i) (pairs_end vs n i k)) ∙ s.left
 
     module _ (k : i < n) (q : units.Range) (eq : q ≡ pair_at vs i) (t : Bool) (et : t ≡ leb q.limit.0 r.base.0) where
@@ -52,10 +52,10 @@ module _ (vs : List ℕ) (n : ℕ) (r : units.Range) (from : ℕ) where
         above : leb q.limit.0 r.base.0 ≡ false
         above = said-false t (leb q.limit.0 r.base.0) et f
 
-        pub place_here : v ≡ true → Beside.At i ≡ beside_of r from (behind vs n from)
+        pub place_here : v ≡ true → Some i ≡ beside_of r from (behind vs n from)
         place_here g = let w = sym ev ∙ g in rw (above, w) at here
 
-        pub place-overlaps : v ≡ false → Beside.Overlaps ≡ beside_of r from (behind vs n from)
+        pub place-overlaps : v ≡ false → None ≡ beside_of r from (behind vs n from)
         place-overlaps g = let w = sym ev ∙ g in rw (above, w) at here
 
 pub ruleset placings = (place-start, place_inside, place_end, place-on, place_here, place-overlaps)
@@ -68,13 +68,13 @@ pub record Kept (vs : List ℕ) (n hi i j : ℕ) : Type 0 where
   pub apart : Apart low hi (behind vs n j)
 
 module _ (vs : List ℕ) (n hi : ℕ) (fits : n ≤ capacity vs) (r : units.Range) where
-  abbrev pub Keeps : ℕ → Beside → Type 0
-  Keeps i (Beside.At j) = Kept vs n hi i j
-  Keeps i Beside.Overlaps = Unit {0}
+  abbrev pub Keeps : ℕ → Option ℕ → Type 0
+  Keeps i (Some j) = Kept vs n hi i j
+  Keeps i None = Unit {0}
 
-  keeps_on : (i : ℕ) (w : Beside) → Keeps (i + 1) w → Keeps i w
-  keeps_on i (Beside.At j) c = record { least = let l = c.least in omega arith; most = c.most; low = c.low; apart = c.apart }
-  keeps_on i Beside.Overlaps c = tt
+  keeps_on : (i : ℕ) (w : Option ℕ) → Keeps (i + 1) w → Keeps i w
+  keeps_on i (Some j) c = record { least = let l = c.least in omega arith; most = c.most; low = c.low; apart = c.apart }
+  keeps_on i None c = tt
 
   pub placed-keeps : (d i lo : ℕ) → i + d ≡ n → Apart lo hi (behind vs n i) → Keeps i (beside_of r i (behind vs n i))
   placed-keeps zero i lo k b =
@@ -93,13 +93,13 @@ module _ (vs : List ℕ) (n hi : ℕ) (fits : n ≤ capacity vs) (r : units.Rang
 -- what the place tells of overlaps
 module _ (vs : List ℕ) (n hi : ℕ) (fits : n ≤ capacity vs) (r : Range) (rs : List Range) (top : ℕ) (o : r.base < r.limit) (p : r.limit ≤ top)
     (a : Apart (suc r.limit) top rs) where
-  abbrev pub Says : ℕ → Beside → Type 0
-  Says i (Beside.At j) = meet (r ∷ rs) (behind vs n i) ≡ meet rs (behind vs n j)
-  Says i Beside.Overlaps = meet (r ∷ rs) (behind vs n i) ≡ true
+  abbrev pub Says : ℕ → Option ℕ → Type 0
+  Says i (Some j) = meet (r ∷ rs) (behind vs n i) ≡ meet rs (behind vs n j)
+  Says i None = meet (r ∷ rs) (behind vs n i) ≡ true
 
-  said-on : (i : ℕ) (w : Beside) → meet (r ∷ rs) (behind vs n i) ≡ meet (r ∷ rs) (behind vs n (i + 1)) → Says (i + 1) w → Says i w
-  said-on i (Beside.At j) e c = e ∙ c
-  said-on i Beside.Overlaps e c = e ∙ c
+  said-on : (i : ℕ) (w : Option ℕ) → meet (r ∷ rs) (behind vs n i) ≡ meet (r ∷ rs) (behind vs n (i + 1)) → Says (i + 1) w → Says i w
+  said-on i (Some j) e c = e ∙ c
+  said-on i None e c = e ∙ c
 
   pub placed-says : (d i lo : ℕ) → i + d ≡ n → Apart lo hi (behind vs n i) → Says i (beside_of (struct r) i (behind vs n i))
   placed-says zero i lo k b =
@@ -134,9 +134,9 @@ module _ (vs : List ℕ) (n hi : ℕ) (fits : n ≤ capacity vs) (r : Range) (o 
   abbrev numbered : ℕ → ℕ
   numbered i = sound_number (soundness_of (not (meet (r ∷ []) (behind vs n i))))
 
-  number_of : (i : ℕ) (w : Beside) → Says vs n hi fits r [] r.limit o (omega arith) tt i w → beside_number w ≡ numbered i
-  number_of i (Beside.At j) e = rw e (omega arith)
-  number_of i Beside.Overlaps e = rw e (omega arith)
+  number_of : (i : ℕ) (w : Option ℕ) → Says vs n hi fits r [] r.limit o (omega arith) tt i w → beside_number w ≡ numbered i
+  number_of i (Some j) e = rw e (omega arith)
+  number_of i None e = rw e (omega arith)
 
   pub beside-number : (d i lo : ℕ) → i + d ≡ n → Apart lo hi (behind vs n i) → beside_number (beside_of (struct r) i (behind vs n i)) ≡ numbered i
   beside-number d i lo k b =

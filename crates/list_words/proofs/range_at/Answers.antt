@@ -29,23 +29,21 @@ returns-then-is_tagged c = search steps
 pub plus-least-requires : goal.plus-least-requires
 plus-least-requires c = let h = (begun c.args.arena _ c.requires.ready _ _ c.requires.base_le_low _ c.may_begin.ensures (ap not c.if-not-may_begin.false)) in omega arith
 
-pub returns-then-lt : goal.returns-then-lt
-returns-then-lt c = let h = (begun c.args.arena _ c.requires.ready _ _ c.requires.base_le_low _ c.may_begin.ensures (ap not c.if-not-may_begin.false)) in search steps
-
 pub bounds-words-i-2 : goal.bounds-words-i-2
 bounds-words-i-2 c = let h = (begun c.args.arena _ c.requires.ready _ _ c.requires.base_le_low _ c.may_begin.ensures (ap not c.if-not-may_begin.false)) in search second_word
-
-pub returns-then-lt-2 : goal.returns-then-lt-2
-returns-then-lt-2 c =
-    let h = (begun c.args.arena _ c.requires.ready _ _ c.requires.base_le_low _ c.may_begin.ensures (ap not c.if-not-may_begin.false)) in search steps
 
 pub may_end-requires-2 : goal.may_end-requires-2
 may_end-requires-2 c =
     (begun c.args.arena _ c.requires.ready _ _ c.requires.base_le_low _ c.may_begin.ensures (ap not c.if-not-may_begin.false)).align
 
+pub returns-then-lt : goal.returns-then-lt
+returns-then-lt c = let h = (begun c.args.arena _ c.requires.ready _ _ c.requires.base_le_low _ c.may_begin.ensures (ap not c.if-not-may_begin.false)) in search steps
+
+pub returns-then-lt-2 : goal.returns-then-lt-2
+returns-then-lt-2 c = let h = (begun c.args.arena _ c.requires.ready _ _ c.requires.base_le_low _ c.may_begin.ensures (ap not c.if-not-may_begin.false)) in search steps
+
 pub returns-then-not-may_end-2 : goal.returns-then-not-may_end-2
-returns-then-not-may_end-2 c =
-    let h = (begun c.args.arena _ c.requires.ready _ _ c.requires.base_le_low _ c.may_begin.ensures (ap not c.if-not-may_begin.false)) in search steps
+returns-then-not-may_end-2 c = let h = (begun c.args.arena _ c.requires.ready _ _ c.requires.base_le_low _ c.may_begin.ensures (ap not c.if-not-may_begin.false)) in search steps
 
 pub returns : goal.returns
 returns c =

@@ -1,5 +1,5 @@
 -- The walk up to the first range that fits: contracts of inner functions. Assumes nothing.
-use Rattle.std.specs.Prelude.{ℕ, cond, List, [], ◌∷◌, ◌≡◌}
+use Rattle.std.specs.Prelude.{ℕ, cond, List, [], ◌∷◌, ◌≡◌, Result, Ok, Err}
 use Rattle.units.specs.declared.Range.{Range}
 use Rattle.units.specs.declared.aims.Goal.{Goal}
 use Rattle.units.specs.declared.rules.Arena.{Arena}
@@ -8,7 +8,7 @@ use Rattle.units.specs.inner.Aims.{none_range, fits}
 use Rattle.model.specs.Marks as marks
 use Rattle.list_words.specs.declared.Spot.{Spot}
 use Rattle.list_words.specs.declared.cursor.Cursor.{Cursor}
-use Rattle.list_words.specs.declared.seeks.Sought.{Sought}
+use Rattle.list_words.specs.declared.Fault.{Fault}
 use Rattle.list_words.specs.Words.{clean}
 use Rattle.list_words.specs.Laying.{head_of}
 use Rattle.list_words.specs.inner.Surveys.{walk_of, spot, Along}
@@ -26,6 +26,6 @@ pub record Come (a : Arena) (ws : List ℕ) (head : ℕ) (f : List marks.Range �
   pub is : (walk_of a ws head).end ≡ clean → s ≡ f (walk_of a ws head).met
 
 -- What a walk sought: a fault, or the spot that f says of the whole list.
-abbrev pub SoughtBy : Arena → List ℕ → ℕ → (List marks.Range → Spot) → Sought → Type 0
-SoughtBy a ws head f Sought.Broken = (walk_of a ws head).end ≡ clean → ⊥
-SoughtBy a ws head f (Sought.At s c) = Come a ws head f s c
+abbrev pub SoughtBy : Arena → List ℕ → ℕ → (List marks.Range → Spot) → Result (Spot × Cursor) Fault → Type 0
+SoughtBy a ws head f (Err e) = (walk_of a ws head).end ≡ clean → ⊥
+SoughtBy a ws head f (Ok (s, c)) = Come a ws head f s c

@@ -1,11 +1,11 @@
 -- What the walk over the whole list keeps: contracts of inner functions. Assumes nothing.
-use Rattle.std.specs.Prelude.{ℕ, ◌+◌, ◌-◌, ◌≤◌, ◌<◌, Bool, cond, ◌&&◌, List, [], ◌∷◌, ◌≡◌, eqb, length}
+use Rattle.std.specs.Prelude.{ℕ, ◌+◌, ◌-◌, ◌≤◌, ◌<◌, Bool, cond, ◌&&◌, List, [], ◌∷◌, ◌≡◌, eqb, length, Result, Ok, Err}
 use Rattle.units.specs.declared.Addr.{Addr}
 use Rattle.units.specs.declared.Range.{Range}
 use Rattle.units.specs.declared.aims.Aim.{Aim}
 use Rattle.units.specs.declared.rules.Arena.{Arena}
-use Rattle.units.specs.declared.rules.ArenaCheck.{ArenaCheck}
-use Rattle.units.specs.Rules.{arena_check}
+use Rattle.units.specs.declared.refusals.Refusal.{Refusal}
+use Rattle.units.specs.Rules.{refusal_number, arena_check}
 use Rattle.units.specs.Words.{addr, word_number, range_of}
 use Rattle.units.specs.inner.Aims.{none_range, is_none, takes}
 use Rattle.model.specs.Marks.{total}
@@ -13,13 +13,12 @@ use Rattle.model.specs.Marks as marks
 use Rattle.list_words.specs.declared.Chain.{Chain}
 use Rattle.list_words.specs.declared.cursor.Cursor.{Cursor}
 use Rattle.list_words.specs.declared.Spot.{Spot}
-use Rattle.list_words.specs.declared.Verdict.{Verdict}
 use Rattle.list_words.specs.Words.{Walk, walk_from, sound_walk}
 use Rattle.list_words.specs.Laying.{head_of}
 
 -- The set-up is good: an arena, and as many words as it has.
 pub record Ready (a : Arena) (n : ℕ) : Type 0 where
-  pub arena : arena_check a.base.0 a.limit.0 a.align.0 ≡ ArenaCheck.Good
+  pub arena : arena_check a.base.0 a.limit.0 a.align.0 ≡ Ok tt
   pub words : word_number a.base.0 a.limit.0 ≡ n
 
 -- The walk of an arena's words from a place.
@@ -91,13 +90,13 @@ no_spot = spot none_range none_range (addr 0)
 abbrev pub kept_of : Aim → List marks.Range → Spot
 kept_of aim rs = keeping aim none_range no_spot rs
 
--- Document 01's number of what a survey finds: 6, or 0.
-abbrev pub verdict_number : Verdict → ℕ
-verdict_number Verdict.Damaged = 6
-verdict_number (Verdict.Sound s) = 0
+-- Document 01's number of what a survey finds: that of the refusal, or 0.
+abbrev pub verdict_number : Result Spot Refusal → ℕ
+verdict_number (Err r) = refusal_number r
+verdict_number (Ok s) = 0
 
 -- What a survey finds.
-unfoldable pub survey_of : Arena → List ℕ → Chain → Aim → Verdict
+unfoldable pub survey_of : Arena → List ℕ → Chain → Aim → Result Spot Refusal
 survey_of a ws c aim =
     cond (sound_walk (walk_of a ws c.head.0) c.ranges c.bytes.0)
-    (Verdict.Sound (kept_of aim (walk_of a ws c.head.0).met)) Verdict.Damaged
+    (Ok (kept_of aim (walk_of a ws c.head.0).met)) (Err Refusal.Damaged)
