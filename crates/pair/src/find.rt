@@ -158,7 +158,7 @@ impl Pair {
     }
 
     // The find that `which` names: the set-up, the size, the one look at both lands, and then 6, 4, 2 and the removal.
-    fn find(
+    pub fn find(
         self,
         words: &mut [u64],
         nodes: &mut [u64],
