@@ -1,8 +1,9 @@
 -- What a derived comparison of two addresses or sizes tells: an order of their numbers. Assumes nothing.
-use Rattle.std.proofs.Common.{◌≡◌, ℕ, ◌<◌, ◌≤◌, Bool, true, false, eqb, ltb, sym, refl, ◌∙◌, ltb-true, ltb-false, arith}
+use Rattle.std.proofs.Common.{◌≡◌, ℕ, ◌<◌, ◌≤◌, Bool, true, false, eqb, ltb, leb, sym, refl, ◌∙◌, ltb-true, ltb-false, arith}
 use Rattle.std.proofs.lemmas.Bool.{eqb-false}
 use Rattle.std.specs.Ordering.{nat_cmp, is_lt, is_le}
 use Rattle.std.proofs.lemmas.Map.Keys.{ge_from_not_lt, le_from_is_le}
+use borrow.Author.Tests.{le-leb, lt-leb}
 use Rattle.units.proofs.Tests.{by, clash}
 
 less : (x y : ℕ) → is_lt (nat_cmp x y) ≡ true → x < y
@@ -19,6 +20,15 @@ more x y h =
     (λ k. let e : true ≡ false = rw (t, k) at h in clash (sym e) refl)
     (λ k. omega (arith, eqb-false x y k, ltb-false x y t)))
 
+lt-is : (x y : ℕ) → is_lt (nat_cmp x y) ≡ ltb x y
+lt-is x y = by (ltb x y) (λ t. rw t) (λ t. by (eqb x y) (λ k. rw (t, k)) (λ k. rw (t, k)))
+
+le-is : (x y : ℕ) → is_le (nat_cmp x y) ≡ leb x y
+le-is x y =
+    by (is_le (nat_cmp x y))
+    (λ t. rw (t, le-leb x y (le_from_is_le x y t)))
+    (λ t. rw (t, lt-leb x y (more x y t)))
+
 module _ (x y : ℕ) (r : Bool) where
   pub told-lt : r ≡ is_lt (nat_cmp x y) → r ≡ true → x < y
   told-lt e t = less x y (sym e ∙ t)
@@ -31,5 +41,12 @@ module _ (x y : ℕ) (r : Bool) where
 
   pub told-gt : r ≡ is_le (nat_cmp x y) → r ≡ false → y < x
   told-gt e t = more x y (sym e ∙ t)
+
+  -- as the tests of definitions
+  pub told-ltb : r ≡ is_lt (nat_cmp x y) → r ≡ ltb x y
+  told-ltb e = e ∙ lt-is x y
+
+  pub told-leb : r ≡ is_le (nat_cmp x y) → r ≡ leb x y
+  told-leb e = e ∙ le-is x y
 
 pub ruleset orders = (told-lt, told-ge, told-le, told-gt)
