@@ -4,9 +4,11 @@ use mathlib.Core.Bool.{Bool, cond, ◌&&◌}
 use mathlib.Core.List.{List}
 use mathlib.Core.Option.{none}
 use mathlib.Core.Path.{◌≡◌, refl, ◌∙◌}
+use Rattle.std.specs.Prelude.{Ok, Err}
 use Rattle.units.specs.LowWater.{sound_low}
 use Rattle.units.specs.Rules.{good_arena}
 use Rattle.units.specs.declared.aims.Aim.{Aim}
+use Rattle.units.specs.declared.refusals.Refusal.{Refusal}
 use Rattle.model.specs.Calls.{Call}
 use Rattle.model.specs.Lands.{land_call}
 use Rattle.model.specs.Layouts.{reading}
@@ -18,11 +20,10 @@ use Rattle.block_words.specs.declared.Entry.{Entry}
 use Rattle.block_edits.proofs.Entering.{entry_here}
 use Rattle.block_land.specs.Calls.{does}
 use Rattle.block_land.specs.Layout.{base, limit, align, lent, set_up, sound, table_of, read_of, layout}
-use Rattle.block_land.specs.inner.Parts.{arena_in, look_number, look_of}
+use Rattle.block_land.specs.inner.Parts.{arena_in, look_of}
 use Rattle.block_land.specs.declared.BlockLand.{BlockLand}
 use Rattle.block_land.specs.declared.Changed.{Changed}
 use Rattle.block_land.specs.declared.Found.{Found}
-use Rattle.block_land.specs.declared.Look.{Look}
 use Rattle.block_land.proofs.LayoutLaws.{block-laws, words_back}
 use Rattle.block_land.proofs.Sound.{fine}
 
@@ -47,14 +48,11 @@ unfolding read_of
 reads_as h ws = refl
 
 pub looks : (h : BlockLand) (ws : List ℕ) (aim : Aim) →
-    look_of h ws aim ≡ cond (set_up h ws) (cond (sound h ws) (Look.Sound (entry_of aim (table_of h ws))) Look.Damaged) Look.BadSetUp
+    look_of h ws aim ≡ cond (set_up h ws) (cond (sound h ws) (Ok (entry_of aim (table_of h ws))) (Err Refusal.Damaged)) (Err Refusal.SetUp)
 unfolding look_of
 looks h ws aim = refl
 
-pub same : (s t : Entry) → Look.Sound s ≡ Look.Sound t → s ≡ t
-same s t e = cc
-
-abbrev pub block_land : Land BlockLand Look Entry Changed Found
+abbrev pub block_land : Land BlockLand Entry Changed Found
 block_land = record {
   layout = layout;
   lent = λ h ws. lent ws;
@@ -64,10 +62,6 @@ block_land = record {
   bytes = λ h. h.bytes;
   ranges = table_of;
   arena-in = arena_in;
-  bad = Look.BadSetUp;
-  damaged = Look.Damaged;
-  whole = λ s. Look.Sound s;
-  number = look_number;
   look = look_of;
   aimed = λ h aim. aim;
   keep = entry_of;
@@ -81,10 +75,6 @@ block_land = record {
   sound-is = sound-is;
   reads = reads_as;
   arena-is = λ h ws. refl;
-  number-bad = refl;
-  number-damaged = refl;
-  number-whole = λ s. refl;
-  same = same;
   looks = looks;
   aims-from = λ h x. refl;
   keeps = λ aim lo hi rs z a. entry_here aim rs ∙ picked-by aim none rs;

@@ -6,9 +6,9 @@ use mathlib.Core.Path.{◌≡◌, sym}
 use lib.Dec.{leb}
 use lib.ListN.{length, drop}
 use borrow.Author.Tests.{eqb-true, leb-true}
+use Rattle.std.specs.Prelude.{Ok}
 use Rattle.units.specs.LowWater.{sound_low}
 use Rattle.units.specs.Rules.{arena_check, good_arena}
-use Rattle.units.specs.declared.rules.ArenaCheck.{ArenaCheck}
 use Rattle.units.proofs.Alignments.{align-positive}
 use Rattle.units.proofs.Cases.{good-case}
 use Rattle.units.proofs.Facts.{GoodArena, arena-facts}
@@ -23,7 +23,7 @@ use Rattle.block_land.specs.declared.BlockLand.{BlockLand}
 
 -- what a good set-up says of the numbers
 pub record SetUpFacts (h : BlockLand) (n : ℕ) : Type 0 where
-  pub check : arena_check (base h) (limit h) (align h) ≡ ArenaCheck.Good
+  pub check : arena_check (base h) (limit h) (align h) ≡ Ok tt
   pub arena : GoodArena (base h) (limit h) (align h)
   pub few : n ≤ 2097152
   pub positive : 0 < align h

@@ -3,10 +3,9 @@ ghost use Rattle.std.specs.Prelude.{◌≡◌};
 ghost use Rattle.block_land.specs.Calls.{changed, deleted};
 ghost use Rattle.block_land.specs.inner.Parts.{Looked, reach_limit};
 
-use crate::{BlockLand, Changed, Look, refused};
-use block_edits::TableEdited;
+use crate::{BlockLand, Changed, refused};
 use block_words::Entry;
-use units::{Aim, Range, RangeCheck};
+use units::{Aim, Range, Refusal};
 
 impl BlockLand {
     // Delete from a sound table, at the first range that reaches the limit of the request.
@@ -14,18 +13,17 @@ impl BlockLand {
         requires { Looked self nodes.old (reach_limit range) entry }
         ensures { (result ≡ changed (deleted self nodes.old range)) × (nodes.new ≡ (deleted self nodes.old range).words) }
     {
-        let RangeCheck::Good = self.good_arena().check_range(range) else {
-            return refused(self, 4);
+        let Ok(()) = self.good_arena().check_range(range) else {
+            return refused(self, Refusal::Request);
         };
         match block_edits::cut_out(nodes, self.ranges, entry.number, range) {
-            TableEdited::Refused => refused(self, 1),
-            TableEdited::Full => refused(self, 3),
-            TableEdited::Done(old, count) => {
+            Err(why) => refused(self, why),
+            Ok(edited) => {
                 let bytes = self.bytes.minus(range.size());
                 Changed {
-                    land: self.close(count, bytes),
+                    land: self.close(edited.count, bytes),
                     answer: 0,
-                    range: old,
+                    range: edited.range,
                 }
             }
         }
@@ -35,14 +33,9 @@ impl BlockLand {
     pub fn delete(self, nodes: &mut [u64], range: Range) -> Changed
         ensures { (result ≡ changed (deleted self nodes.old range)) × (nodes.new ≡ (deleted self nodes.old range).words) }
     {
-        let limit = range.limit;
-        match self.look(nodes, Aim::Reach(limit)) {
-            Look::BadSetUp => refused(self, 5),
-            Look::Damaged => refused(self, 6),
-            Look::Sound(e) => {
-                let entry = e;
-                self.delete_at(nodes, range, entry)
-            }
+        match self.look(nodes, Aim::Reach(range.limit)) {
+            Err(refusal) => refused(self, refusal),
+            Ok(entry) => self.delete_at(nodes, range, entry),
         }
     }
 }

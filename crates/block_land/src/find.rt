@@ -1,5 +1,6 @@
 // The three finds: the range chosen, the part of it that is found, and its removal.
 ghost use Rattle.std.specs.Prelude.{true, ◌≡◌};
+ghost use Rattle.units.specs.Rules.{refusal_number};
 ghost use Rattle.model.specs.Calls.{good_size_in};
 ghost use Rattle.block_land.specs.Calls.{found_of, found};
 ghost use Rattle.block_land.specs.Layout.{arena_of};
@@ -7,14 +8,14 @@ ghost use Rattle.block_land.specs.inner.Parts.{Looked, find_aim, found_none};
 
 use crate::{BlockLand, Found};
 use block_words::{Entry, seeks};
-use units::{Mode, Range, SetUp, Size, SizeCheck, Soundness, Which};
+use units::{Mode, Range, Refusal, Size, Which};
 
-fn none_found(land: BlockLand, answer: u64) -> Found
-    ensures { result ≡ found_none land answer }
+fn none_found(land: BlockLand, refusal: Refusal) -> Found
+    ensures { result ≡ found_none land (refusal_number refusal) }
 {
     Found {
         land,
-        answer,
+        answer: refusal.number(),
         range: Range::none(),
         old: Range::none(),
     }
@@ -29,7 +30,7 @@ impl BlockLand {
     {
         let here = entry.here;
         if here.base.is_zero() {
-            return none_found(self, 2);
+            return none_found(self, Refusal::NoneFound);
         }
         let part = finds::part(which, mode, self.arena().find_size(size), here);
         if let Mode::None = mode {
@@ -54,17 +55,17 @@ impl BlockLand {
     pub fn find(self, nodes: &mut [u64], which: Which, size: Size, mode: Mode) -> Found
         ensures { (result ≡ found_of (found self nodes.old which size.0 mode)) × (nodes.new ≡ (found self nodes.old which size.0 mode).words) }
     {
-        let SetUp::Good = self.set_up(nodes) else {
-            return none_found(self, 5);
-        };
+        if let Err(refusal) = self.set_up(nodes) {
+            return none_found(self, refusal);
+        }
         let arena = self.good_arena();
         let check = arena.check_find(which, size);
         let wanted = arena.find_size(size);
-        let Soundness::Sound = self.judge(arena, nodes) else {
-            return none_found(self, 6);
-        };
-        let SizeCheck::Good = check else {
-            return none_found(self, 4);
+        if let Err(refusal) = self.judge(arena, nodes) {
+            return none_found(self, refusal);
+        }
+        let Ok(()) = check else {
+            return none_found(self, Refusal::Request);
         };
         let entry = seeks::found(nodes, self.ranges as usize, which, wanted);
         self.find_at(nodes, which, size, mode, entry)

@@ -10,14 +10,14 @@ mod insert;
 mod open;
 
 ghost use Rattle.std.specs.Prelude.{true, ◌≡◌};
-ghost use Rattle.units.specs.Rules.{good_align};
+ghost use Rattle.units.specs.Rules.{good_align, refusal_number};
 ghost use Rattle.units.specs.inner.Parts.{set_up_of, soundness_of};
 ghost use Rattle.block_land.specs.Layout.{lent, set_up, sound, closed_with};
 ghost use Rattle.block_land.specs.Calls.{changed, walked};
-ghost use Rattle.block_land.specs.inner.Parts.{arena_in, look_number, look_of, refused_by};
+ghost use Rattle.block_land.specs.inner.Parts.{arena_in, look_of, refused_by};
 
-use block_words::{Entry, Verdict};
-use units::{Addr, Aim, Align, Arena, ArenaCheck, LowWater, Range, SetUp, Size, Soundness};
+use block_words::Entry;
+use units::{Addr, Aim, Align, Arena, LowWater, Range, Refusal, Size};
 
 // The handle of a block land: its arena, the number of ranges and of free bytes, the mark and low water.
 #[repr(C)]
@@ -58,45 +58,24 @@ pub struct Found {
     pub old: Range,
 }
 
-// What a call finds before it looks at its request: a bad set-up, a table that is not sound, or the entry aimed at.
-#[derive(Clone, Copy)]
-pub enum Look {
-    BadSetUp,
-    Damaged,
-    Sound(Entry),
-}
-
-impl Look {
-    // Document 01's number of what was found: 5, 6, or 0.
-    pub fn number(self) -> u64
-        ensures { result ≡ look_number self }
-    {
-        match self {
-            Look::BadSetUp => 5,
-            Look::Damaged => 6,
-            Look::Sound(_) => 0,
-        }
-    }
-}
-
-fn refused(land: BlockLand, answer: u64) -> Changed
-    ensures { result ≡ refused_by land answer }
+fn refused(land: BlockLand, refusal: Refusal) -> Changed
+    ensures { result ≡ refused_by land (refusal_number refusal) }
 {
     Changed {
         land,
-        answer,
+        answer: refusal.number(),
         range: Range::none(),
     }
 }
 
 // Whether node space is not too long.
-pub fn lent(nodes: &[u64]) -> SetUp
+pub fn lent(nodes: &[u64]) -> Result<(), Refusal>
     ensures { result ≡ set_up_of (lent nodes.now) }
 {
     if nodes.len() <= 2097152 {
-        SetUp::Good
+        Ok(())
     } else {
-        SetUp::Bad
+        Err(Refusal::SetUp)
     }
 }
 
@@ -120,45 +99,33 @@ impl BlockLand {
     }
 
     // Whether the fixed fields keep the arena rules and node space is not too long.
-    pub fn set_up(self, nodes: &[u64]) -> SetUp
+    pub fn set_up(self, nodes: &[u64]) -> Result<(), Refusal>
         ensures { result ≡ set_up_of (set_up self nodes.now) }
     {
-        let ArenaCheck::Good = self.arena().check() else {
-            return SetUp::Bad;
+        let Ok(()) = self.arena().check() else {
+            return Err(Refusal::SetUp);
         };
         lent(nodes)
     }
 
     // Low water, and the one scan of a call: whether the land is sound.
-    pub(crate) fn judge(self, arena: Arena, nodes: &[u64]) -> Soundness
+    pub(crate) fn judge(self, arena: Arena, nodes: &[u64]) -> Result<(), Refusal>
         requires nodes_value { set_up self nodes.now ≡ true }
         requires arena_value { arena ≡ arena_in self }
         ensures { result ≡ soundness_of (sound self nodes.now) }
     {
-        let water = self.water;
         let bytes = self.bytes;
-        let Soundness::Sound = water.check(bytes) else {
-            return Soundness::Damaged;
-        };
+        self.water.check(bytes)?;
         block_words::sound(arena, nodes, self.ranges, bytes)
     }
 
     // The same, with what is aimed at.
-    pub fn look(self, nodes: &[u64], aim: Aim) -> Look
+    pub fn look(self, nodes: &[u64], aim: Aim) -> Result<Entry, Refusal>
         ensures { result ≡ look_of self nodes.now aim }
     {
-        let SetUp::Good = self.set_up(nodes) else {
-            return Look::BadSetUp;
-        };
-        let water = self.water;
-        let bytes = self.bytes;
-        let Soundness::Sound = water.check(bytes) else {
-            return Look::Damaged;
-        };
-        match block_words::survey(self.arena(), nodes, self.ranges, bytes, aim) {
-            Verdict::Damaged => Look::Damaged,
-            Verdict::Sound(entry) => Look::Sound(entry),
-        }
+        self.set_up(nodes)?;
+        self.water.check(self.bytes)?;
+        block_words::survey(self.arena(), nodes, self.ranges, self.bytes, aim)
     }
 
     // The next handle of every accepted call, in which the number of free bytes is noted.
@@ -184,12 +151,11 @@ impl BlockLand {
         ensures { (result ≡ changed (walked self nodes.now from.0)) × (nodes.now ≡ (walked self nodes.now from.0).words) }
     {
         match self.look(nodes, Aim::From(from)) {
-            Look::BadSetUp => refused(self, 5),
-            Look::Damaged => refused(self, 6),
-            Look::Sound(entry) => {
+            Err(refusal) => refused(self, refusal),
+            Ok(entry) => {
                 let range = entry.here;
                 if range.base.is_zero() {
-                    return refused(self, 2);
+                    return refused(self, Refusal::NoneFound);
                 }
                 Changed {
                     land: self,

@@ -3,7 +3,7 @@ ghost use Rattle.std.specs.Prelude.{◌≡◌};
 ghost use Rattle.block_land.specs.Calls.{new_land, opened_of, opened_words};
 
 use crate::{BlockLand, Opened};
-use units::{Addr, Align, LowWater, SetUp, Size};
+use units::{Addr, Align, LowWater, Size};
 
 // The handle of a land with no ranges.
 fn new_land(base: Addr, limit: Addr, align: Align) -> BlockLand
@@ -25,13 +25,12 @@ impl BlockLand {
         ensures { (result ≡ opened_of base.0 limit.0 align.0 nodes.old) × (nodes.new ≡ opened_words base.0 limit.0 align.0 nodes.old) }
     {
         let land = new_land(base, limit, align);
-        let SetUp::Good = land.set_up(nodes) else {
+        if let Err(refusal) = land.set_up(nodes) {
             let zero = Addr::new(0);
-            return Opened {
-                land: new_land(zero, zero, Align::new(0)),
-                answer: 5,
-            };
-        };
+            let none = new_land(zero, zero, Align::new(0));
+            let answer = refusal.number();
+            return Opened { land: none, answer };
+        }
         block_shifts::clear(nodes);
         Opened { land, answer: 0 }
     }

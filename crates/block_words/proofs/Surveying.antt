@@ -1,6 +1,6 @@
 -- What is found of a table: damage where it is not sound, else what the aim keeps of it; the ways out of `tidy`, `sound` and `survey`.
 -- Assumes nothing.
-use Rattle.std.proofs.Common.{◌≡◌, ℕ, ◌*◌, ◌/◌, ◌<◌, ◌≤◌, Bool, true, false, cond, not, leb, List, length, drop, sym, refl, ap, ◌∙◌, arith, le-leb, leb-true}
+use Rattle.std.proofs.Common.{◌≡◌, ℕ, ◌*◌, ◌/◌, ◌<◌, ◌≤◌, Bool, true, false, cond, not, leb, List, length, drop, sym, ap, ◌∙◌, arith, le-leb, leb-true}
 use borrow.Author.Tests.{lt-leb}
 use Rattle.std.specs.Prelude.{Ok, Err}
 use Rattle.units.specs.inner.Parts.{Checked, soundness_of}
@@ -11,7 +11,7 @@ use Rattle.units.specs.declared.refusals.Refusal.{Refusal}
 use Rattle.units.proofs.Facts.{arena-facts}
 use Rattle.units.proofs.Tests.{by, clash, and_left, and_right}
 use Rattle.units.proofs.Ways.{said-true, said-false}
-use Rattle.units.proofs.Cases.{sound-true}
+use Rattle.units.proofs.Cases.{sound-err, sound-true}
 use Rattle.block_words.specs.Words.{capacity, pairs, all_zero, sound_table}
 use Rattle.block_words.specs.inner.Tallies.{Ready, sound_pairs}
 use Rattle.block_words.specs.inner.Surveys.{entry_of, Rising, tidy, verdict_number, survey_of}
@@ -37,15 +37,6 @@ pub tidy-fits : (ws : List ℕ) (n : ℕ) (z : Checked) → z ≡ soundness_of (
 tidy-fits ws n z ez f =
     leb-true n (capacity ws) (and_left (leb n (capacity ws)) (all_zero (drop (2 * n) ws)) (sound-true (tidy ws n) z ez f))
 
--- an error of what judges soundness says that it is not, and is damage
-abbrev why : Checked → Refusal
-why (Ok u) = Refusal.Damaged
-why (Err e) = e
-
-pub sound-refused : (t : Bool) (r : Checked) (e : Refusal) → r ≡ soundness_of t → r ≡ Err e → (t ≡ false) × (e ≡ Refusal.Damaged)
-sound-refused true r e p q = let z : ◌≡◌ {A = ℕ} 0 1 = cc in absurd (omega arith)
-sound-refused false r e p q = (refl, ap why (sym q ∙ p))
-
 -- what is found has the number of the table's soundness
 pub verdict-number : (arena : Arena) (ws : List ℕ) (n : ℕ) (bytes : Size) (aim : Aim) →
     verdict_number (survey_of arena ws n bytes aim)
@@ -62,7 +53,7 @@ module _ (arena : Arena) (ws : List ℕ) (n : ℕ) (bytes : Size) where
   module _ (z : Checked) (ez : z ≡ soundness_of (tidy ws n)) where
     pub sound-untidy : (e : Refusal) → z ≡ Err e → Err e ≡ soundness_of is_sound
     sound-untidy e f =
-        let t = (sound-refused (tidy ws n) z e ez f).0 in
+        let t = (sound-err (tidy ws n) e (sym f ∙ ez)).0 in
         sym f ∙ ez ∙ ap soundness_of
         (t ∙ sym (by is_sound
         (λ g. let s = sound-facts arena.base.0 arena.limit.0 arena.align.0 ws n bytes.0 g in
@@ -94,7 +85,7 @@ module _ (arena : Arena) (ws : List ℕ) (n : ℕ) (bytes : Size) where
     pub survey-refused : (aim : Aim) (e : Refusal) → r ≡ Err e → Err e ≡ survey_of arena ws n bytes aim
     unfolding survey_of
     survey-refused aim e f =
-        let w = sound-refused is_sound r e er f in
+        let w = sound-err is_sound e (sym f ∙ er) in
         rw (w.0, w.1)
 
     module _ (f : r ≡ Ok tt) where

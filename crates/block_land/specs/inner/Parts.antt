@@ -1,11 +1,12 @@
 -- Contracts of the inner functions that every call uses. Assumes nothing.
-use Rattle.std.specs.Prelude.{ℕ, true, cond, List, ◌≡◌}
+use Rattle.std.specs.Prelude.{ℕ, true, cond, List, ◌≡◌, Result, Ok, Err}
 use Rattle.units.specs.Rules.{find_size}
 use Rattle.units.specs.Words.{range_of}
 use Rattle.units.specs.declared.aims.Aim.{Aim}
 use Rattle.units.specs.declared.Range.{Range}
 use Rattle.units.specs.declared.Size.{Size}
 use Rattle.units.specs.declared.Which.{Which}
+use Rattle.units.specs.declared.refusals.Refusal.{Refusal}
 use Rattle.units.specs.declared.rules.Arena.{Arena}
 use Rattle.model.specs.inner.Looks as looks
 use Rattle.block_words.specs.inner.Surveys.{entry_of}
@@ -14,21 +15,14 @@ use Rattle.block_land.specs.Layout.{align, set_up, sound, table_of}
 use Rattle.block_land.specs.declared.Changed.{Changed}
 use Rattle.block_land.specs.declared.Found.{Found}
 use Rattle.block_land.specs.declared.BlockLand.{BlockLand}
-use Rattle.block_land.specs.declared.Look.{Look}
 
 abbrev pub arena_in : BlockLand → Arena
 arena_in h = record { base = h.base; limit = h.limit; align = h.align }
 
--- Document 01's number of each case: 5, 6, or 0.
-abbrev pub look_number : Look → ℕ
-look_number Look.BadSetUp = 5
-look_number Look.Damaged = 6
-look_number (Look.Sound e) = 0
-
 -- 5, then 6, then what the aim keeps of the table.
-unfoldable pub look_of : BlockLand → List ℕ → Aim → Look
+unfoldable pub look_of : BlockLand → List ℕ → Aim → Result Entry Refusal
 look_of h ws aim =
-    cond (set_up h ws) (cond (sound h ws) (Look.Sound (entry_of aim (table_of h ws))) Look.Damaged) Look.BadSetUp
+    cond (set_up h ws) (cond (sound h ws) (Ok (entry_of aim (table_of h ws))) (Err Refusal.Damaged)) (Err Refusal.SetUp)
 
 -- A land whose table is sound.
 pub record Readable (h : BlockLand) (ws : List ℕ) : Type 0 where

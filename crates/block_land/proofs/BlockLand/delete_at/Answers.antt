@@ -5,7 +5,7 @@ use Rattle.block_land.specs.Layout.{arena_of}
 use Rattle.model.proofs.lands.EditAnswers.{edit-4, delete-edits}
 use Rattle.block_land.proofs.Land.{block_land}
 use Rattle.block_land.proofs.Requests.{readable, looked-spot, looked-positive, looked-align, sorted, edit-order, edit-order-le}
-use Rattle.block_land.proofs.EditAnswers.{delete-1, delete-3, delete-room, delete-0}
+use Rattle.block_land.proofs.EditAnswers.{delete-refused, delete-room, delete-0}
 use Rattle.block_land.specs.inner.Parts.{reach_limit}
 use Rattle.block_land.proofs.BlockLand.delete_at.Goals as goal
 
@@ -19,34 +19,30 @@ pub returns-in_default : goal.returns-in_default
 returns-in_default c =
     let y = c.args.range in
     edit-4 block_land _ _ (reach_limit y) _ c.requires _ (delete-edits _ _ y.base.0 y.limit.0)
-    (range-bad (arena_of c.args.self []) _ c.good_arena.ensures c.args.range _ c.check_range.ensures c.in_default.not-Good)
+    (range-bad (arena_of c.args.self []) _ c.good_arena.ensures c.args.range _ c.check_range.ensures (c.in_default.not-Ok tt))
     _ c.refused.ensures
 
 pub cut_out-requires-clause-sorted : goal.cut_out-requires-clause-sorted
 cut_out-requires-clause-sorted c = sorted _ _ (readable _ _ (reach_limit c.args.range) _ c.requires)
 
 pub cut_out-requires-clause-base_lt_limit : goal.cut_out-requires-clause-base_lt_limit
-cut_out-requires-clause-base_lt_limit c = edit-order c.args.self [] c.args.range (range-good (arena_of c.args.self []) _ c.good_arena.ensures c.args.range _ c.check_range.ensures c.in-Good.is)
+cut_out-requires-clause-base_lt_limit c = edit-order c.args.self [] c.args.range (range-good (arena_of c.args.self []) _ c.good_arena.ensures c.args.range _ c.check_range.ensures c.in-Ok.is)
 
 pub cut_out-requires-clause-first_reach : goal.cut_out-requires-clause-first_reach
 cut_out-requires-clause-first_reach c = looked-spot _ _ c.args.range.limit _ c.requires
 
 pub size-requires : goal.size-requires
 size-requires c =
-    edit-order-le c.args.self [] c.args.range (range-good (arena_of c.args.self []) _ c.good_arena.ensures c.args.range _ c.check_range.ensures c.in-Good.is)
+    edit-order-le c.args.self [] c.args.range (range-good (arena_of c.args.self []) _ c.good_arena.ensures c.args.range _ c.check_range.ensures c.in-Ok.is)
 
 pub minus-bytes-requires : goal.minus-bytes-requires
 minus-bytes-requires c =
-    delete-room _ _ c.args.range _ c.requires (range-good (arena_of c.args.self []) _ c.good_arena.ensures c.args.range _ c.check_range.ensures c.in-Good.is) _ _ c.cut_out.ensures _ _ c.in-Done.is _ c.size.ensures
+    delete-room _ _ c.args.range _ c.requires (range-good (arena_of c.args.self []) _ c.good_arena.ensures c.args.range _ c.check_range.ensures c.in-Ok.is) _ _ c.cut_out.ensures _ c.in-Ok-cut_out.is _ c.size.ensures
 
-pub returns-in-Refused : goal.returns-in-Refused
-returns-in-Refused c =
-    delete-1 _ _ c.args.range _ c.requires (range-good (arena_of c.args.self []) _ c.good_arena.ensures c.args.range _ c.check_range.ensures c.in-Good.is) _ _ c.cut_out.ensures c.in-Refused.is _ c.refused-in-Refused.ensures
+pub returns-in-Err : goal.returns-in-Err
+returns-in-Err c =
+    delete-refused _ _ c.args.range _ c.requires (range-good (arena_of c.args.self []) _ c.good_arena.ensures c.args.range _ c.check_range.ensures c.in-Ok.is) _ _ c.cut_out.ensures _ c.in-Err.is _ c.refused-in-Err.ensures
 
-pub returns-in-Full : goal.returns-in-Full
-returns-in-Full c =
-    delete-3 _ _ c.args.range _ c.requires (range-good (arena_of c.args.self []) _ c.good_arena.ensures c.args.range _ c.check_range.ensures c.in-Good.is) _ _ c.cut_out.ensures c.in-Full.is _ c.refused-in-Full.ensures
-
-pub returns-in-Done : goal.returns-in-Done
-returns-in-Done c =
-    delete-0 _ _ c.args.range _ c.requires (range-good (arena_of c.args.self []) _ c.good_arena.ensures c.args.range _ c.check_range.ensures c.in-Good.is) _ _ c.cut_out.ensures _ _ c.in-Done.is _ c.size.ensures _ c.minus-bytes.ensures _ c.close.ensures
+pub returns-in-Ok-cut_out : goal.returns-in-Ok-cut_out
+returns-in-Ok-cut_out c =
+    delete-0 _ _ c.args.range _ c.requires (range-good (arena_of c.args.self []) _ c.good_arena.ensures c.args.range _ c.check_range.ensures c.in-Ok.is) _ _ c.cut_out.ensures _ c.in-Ok-cut_out.is _ c.size.ensures _ c.minus-bytes.ensures _ c.close.ensures
