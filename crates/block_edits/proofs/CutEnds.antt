@@ -1,13 +1,13 @@
 -- A part that reaches an end of its pair taken out: what is left below it, or above it, or nothing. Assumes nothing.
-use Prim.Native.Nat.{ℕ, ◌+◌, ◌-◌, ◌*◌}
-use mathlib.Core.Bool.{Bool, true, false}
+use Prim.Native.Nat.{ℕ, ◌+◌, ◌-◌, ◌*◌, ◌≤◌, ◌<◌}
+use mathlib.Core.Bool.{true, false}
 use mathlib.Core.List.{List, []}
 use mathlib.Core.Logic.{⊎_elim}
-use mathlib.Core.Path.{◌≡◌, refl, sym, ap, ◌∙◌}
+use mathlib.Core.Path.{◌≡◌, refl, ap, ◌∙◌}
 use native.Mathlib.Omega.{arith}
 use lib.Dec.{ltb}
 use lib.ListN.{length, get_or}
-use borrow.Author.Tests.{ltb-true, le-ltb}
+use borrow.Author.Tests.{ltb-true, ltb-false, le-ltb, lt-ltb}
 use Rattle.units.specs.Words.{range_of}
 use Rattle.units.specs.declared.Range as units
 use Rattle.units.proofs.Tests.{by}
@@ -52,29 +52,28 @@ module _ (ws : List ℕ) (n : ℕ) (y : units.Range) (i : ℕ) (h : Holding ws n
               (λ t. by (ltb y.limit.0 here.limit.0) (λ u. rw (t, u) (omega arith)) (λ u. rw (t, u) (omega arith)));
         }
 
-    module _ (t : Bool) (et : t ≡ ltb here.base.0 y.base.0) where
-      pub left_below : t ≡ true → (r : units.Range) → r ≡ range_of here.base.0 y.base.0 → (v : List ℕ) → v ≡ with_pair ws i r → Out n v
-      left_below a r er v ev =
-          let p = sym et ∙ a in
-          let q = one_side p in
-          let w = leave_low ws n tidy i low high leaving t et _ refl v a q (ev ∙ ap (with_pair ws i) er) in
+    pub left_below : here.base.0 < y.base.0 → (r : units.Range) → r ≡ range_of here.base.0 y.base.0 → (v : List ℕ) → v ≡ with_pair ws i r → Out n v
+    left_below a r er v ev =
+        let p = lt-ltb here.base.0 y.base.0 a in
+        let q = one_side p in
+        let w = leave_low ws n tidy i low high leaving v a (ltb-false y.limit.0 here.limit.0 q) (ev ∙ ap (with_pair ws i) er) in
+        let o = cut_left ws n y i h here e (left_of here y n) refl v w in
+        let c : n - 1 + 1 + 0 ≡ length (remaining ws n y) = rw (p, q) at o.0 in
+        let k = h.inside in
+        (omega arith, o.1)
+
+    module _ (a : y.base.0 ≤ here.base.0) where
+      pub left-above : y.limit.0 < here.limit.0 → (r : units.Range) → r ≡ range_of y.limit.0 here.limit.0 → (v : List ℕ) → v ≡ with_pair ws i r → Out n v
+      left-above b r er v ev =
+          let w = leave-high ws n tidy i low high leaving v a b (ev ∙ ap (with_pair ws i) er) in
           let o = cut_left ws n y i h here e (left_of here y n) refl v w in
-          let c : n - 1 + 1 + 0 ≡ length (remaining ws n y) = rw (p, q) at o.0 in
+          let c : n - 1 + 0 + 1 ≡ length (remaining ws n y) = rw (le-ltb here.base.0 y.base.0 a, lt-ltb y.limit.0 here.limit.0 b) at o.0 in
           let k = h.inside in
           (omega arith, o.1)
 
-      module _ (a : t ≡ false) (u : Bool) (eu : u ≡ ltb y.limit.0 here.limit.0) where
-        pub left-above : u ≡ true → (r : units.Range) → r ≡ range_of y.limit.0 here.limit.0 → (v : List ℕ) → v ≡ with_pair ws i r → Out n v
-        left-above b r er v ev =
-            let w = leave-high ws n tidy i low high leaving t et u eu v a b (ev ∙ ap (with_pair ws i) er) in
-            let o = cut_left ws n y i h here e (left_of here y n) refl v w in
-            let c : n - 1 + 0 + 1 ≡ length (remaining ws n y) = rw (sym et ∙ a, sym eu ∙ b) at o.0 in
-            let k = h.inside in
-            (omega arith, o.1)
-
-        pub left-nothing : u ≡ false → (v : List ℕ) → v ≡ fill (spliced (pairs ws n) i 1 []) ws → Out (n - 1) v
-        left-nothing b v ev =
-            let w = leave-nothing ws n tidy i low high leaving t et u eu v a b ev in
-            let o = cut_left ws n y i h here e (left_of here y n) refl v w in
-            let c : n - 1 + 0 + 0 ≡ length (remaining ws n y) = rw (sym et ∙ a, sym eu ∙ b) at o.0 in
-            (omega arith, o.1)
+      pub left-nothing : here.limit.0 ≤ y.limit.0 → (v : List ℕ) → v ≡ fill (spliced (pairs ws n) i 1 []) ws → Out (n - 1) v
+      left-nothing b v ev =
+          let w = leave-nothing ws n tidy i low high leaving v a b ev in
+          let o = cut_left ws n y i h here e (left_of here y n) refl v w in
+          let c : n - 1 + 0 + 0 ≡ length (remaining ws n y) = rw (le-ltb here.base.0 y.base.0 a, le-ltb y.limit.0 here.limit.0 b) at o.0 in
+          (omega arith, o.1)

@@ -1,6 +1,6 @@
 -- The first and the last range that is long enough: what holds at each turn of the loops of `first` and `last`, and their ways out.
 -- Assumes nothing.
-use Rattle.std.proofs.Common.{◌≡◌, ℕ, ◌+◌, ◌-◌, ◌<◌, ◌≤◌, Bool, true, false, ltb, leb, List, sym, refl, ap, ◌∙◌, arith, ltb-true, le-ltb, lt-ltb, leb-false, leb-true}
+use Rattle.std.proofs.Common.{◌≡◌, ℕ, ◌+◌, ◌-◌, ◌<◌, ◌≤◌, true, false, ltb, List, sym, refl, ap, ◌∙◌, arith, ltb-true, le-ltb, lt-ltb}
 use mathlib.Core.Bool.{or-true}
 use Rattle.units.specs.inner.Aims.{none_range, length_of, is_none, takes}
 use Rattle.units.specs.declared.Range.{Range}
@@ -29,16 +29,9 @@ module _ (ws : List ℕ) (z : Size) (i : ℕ) where
   long-last : (q : Range) → z.0 ≤ len ws i → takes (Aim.Find Which.Last z) q (pair_at ws i) ≡ true
   long-last q h = rw (le-ltb (len ws i) z.0 h) (or-true (is_none q))
 
-  -- the code's test of a range
-  module _ (r : Range) (er : r ≡ pair_at ws i) (y : Size) (ey : y.0 ≡ length_of r) (b : Bool) (eb : b ≡ leb z.0 y.0) where
-    measured : y.0 ≡ len ws i
-    measured = ey ∙ ap length_of er
-
-    is-long : b ≡ true → z.0 ≤ len ws i
-    is-long f = let m = measured in let t = leb-true z.0 y.0 (sym eb ∙ f) in omega arith
-
-    is-short : b ≡ false → len ws i < z.0
-    is-short f = let m = measured in let t = leb-false z.0 y.0 (sym eb ∙ f) in omega arith
+  -- the code's measure of a range
+  measured : (r : Range) → r ≡ pair_at ws i → (y : Size) → y.0 ≡ length_of r → y.0 ≡ len ws i
+  measured r er y ey = ey ∙ ap length_of er
 
 -- no range before number i is long enough
 pub record Upwards (ws : List ℕ) (n : ℕ) (z : Size) (i : ℕ) : Type 0 where
@@ -66,22 +59,22 @@ module _ (ws : List ℕ) (n : ℕ) (z : Size) where
       pub up-order : r.base.0 ≤ r.limit.0
       up-order = rising-order ws n u.rising i h r er
 
-      module _ (y : Size) (ey : y.0 ≡ length_of r) (b : Bool) (eb : b ≡ leb z.0 y.0) where
-        pub up-here : b ≡ true → entry i r ≡ entry_of (Aim.Find Which.First z) (pairs ws n)
+      module _ (y : Size) (ey : y.0 ≡ length_of r) where
+        pub up-here : z.0 ≤ y.0 → entry i r ≡ entry_of (Aim.Find Which.First z) (pairs ws n)
         up-here f =
             ap (entry i) er ∙ sym (at-inside ws n i h)
             ∙ kept_at ws n u.rising (Aim.Find Which.First z) refl i
             (λ j k m. short-taken ws z j Which.First none_range (u.short j k))
-            (λ k. long-first ws z i Which.First (is-long ws z i r er y ey b eb f))
+            (λ k. long-first ws z i Which.First (let m = measured ws z i r er y ey in omega arith))
 
-        pub up_next : b ≡ false → Upwards ws n z (i + 1)
+        pub up_next : y.0 < z.0 → Upwards ws n z (i + 1)
         up_next f = record { rising = u.rising; upto = omega arith; short = before }
           where
             before : (j : ℕ) → j < i + 1 → len ws j < z.0
             before j k =
                 by (ltb j i)
                 (λ t. u.short j (ltb-true j i t))
-                (λ t. let e : i ≡ j = omega tests in let w = is-short ws z i r er y ey b eb f in rw e at w)
+                (λ t. let e : i ≡ j = omega tests in let m = measured ws z i r er y ey in let w : len ws i < z.0 = omega arith in rw e at w)
 
   pub down-start : Rising ws n → Downwards ws n z n
   down-start s = record { rising = s; upto = omega arith; short = λ j h k. absurd (omega arith) }
@@ -100,22 +93,22 @@ module _ (ws : List ℕ) (n : ℕ) (z : Size) where
         pub down-order : r.base.0 ≤ r.limit.0
         down-order = rising-order ws n d.rising (i - 1) down-inside r er
 
-        module _ (y : Size) (ey : y.0 ≡ length_of r) (b : Bool) (eb : b ≡ leb z.0 y.0) where
-          pub down-here : b ≡ true → entry (i - 1) r ≡ entry_of (Aim.Find Which.Last z) (pairs ws n)
+        module _ (y : Size) (ey : y.0 ≡ length_of r) where
+          pub down-here : z.0 ≤ y.0 → entry (i - 1) r ≡ entry_of (Aim.Find Which.Last z) (pairs ws n)
           down-here f =
               ap (entry (i - 1)) er
               ∙ kept-last ws n d.rising (Aim.Find Which.Last z) (i - 1) down-inside
-              (λ q. long-last ws z (i - 1) q (is-long ws z (i - 1) r er y ey b eb f))
+              (λ q. long-last ws z (i - 1) q (let m = measured ws z (i - 1) r er y ey in omega arith))
               (λ q j k m. short-taken ws z j Which.Last q (d.short j (omega arith) m))
 
-          pub down-next : b ≡ false → Downwards ws n z (i - 1)
+          pub down-next : y.0 < z.0 → Downwards ws n z (i - 1)
           down-next f = record { rising = d.rising; upto = let u = d.upto in omega arith; short = after }
             where
               after : (j : ℕ) → i - 1 ≤ j → j < n → len ws j < z.0
               after j k m =
                   by (ltb (i - 1) j)
                   (λ t. d.short j (omega tests) m)
-                  (λ t. let e : i - 1 ≡ j = omega tests in let w = is-short ws z (i - 1) r er y ey b eb f in rw e at w)
+                  (λ t. let e : i - 1 ≡ j = omega tests in let m = measured ws z (i - 1) r er y ey in let w : len ws (i - 1) < z.0 = omega arith in rw e at w)
 
 pub ruleset ups = (rising_inside, up_start, up-end, up-order, up-here, up_next)
 

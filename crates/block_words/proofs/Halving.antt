@@ -1,6 +1,6 @@
 -- The place of an address in a table whose ranges ascend, by halving: what holds at each turn of the loop of `spot`, and its way
 -- out. Assumes nothing.
-use Rattle.std.proofs.Common.{◌≡◌, ℕ, ◌+◌, ◌*◌, ◌/◌, ◌<◌, ◌≤◌, Bool, true, false, ltb, List, get_or, sym, ap, ◌∙◌, subst, arith, ltb-false, ltb-true}
+use Rattle.std.proofs.Common.{◌≡◌, ℕ, ◌+◌, ◌*◌, ◌/◌, ◌<◌, ◌≤◌, List, get_or, subst, arith}
 use Rattle.units.specs.declared.Range.{Range}
 use Rattle.model.proofs.Splits.{limits-rise}
 use Rattle.block_words.specs.Words.{pairs}
@@ -46,15 +46,12 @@ module _ (ws : List ℕ) (n x lo hi : ℕ) (s : Halving ws n x lo hi) where
       record { ordered = s.ordered; order = omega arith; top = omega arith; below = s.below; reach = λ g. f }
 
   -- the pair in the middle, and whether it ends below x
-  module _ (k : lo < hi) (p : Range) (ep : p ≡ pair_at ws mid) (r : Bool) (er : r ≡ ltb p.limit.0 x) where
-    middle : ltb (get_or ws (2 * mid + 1) 0) x ≡ r
-    middle = sym (er ∙ ap (λ (q : Range). ltb q.limit.0 x) ep)
+  module _ (k : lo < hi) (p : Range) (ep : p ≡ pair_at ws mid) where
+    pub halve-up : p.limit.0 < x → Halving ws n x (mid + 1) hi
+    halve-up t = go-up k (rw ep at t)
 
-    pub halve-up : r ≡ true → Halving ws n x (mid + 1) hi
-    halve-up t = go-up k (ltb-true (get_or ws (2 * mid + 1) 0) x (middle ∙ t))
-
-    pub halve-down : r ≡ false → Halving ws n x lo mid
-    halve-down t = go-down k (ltb-false (get_or ws (2 * mid + 1) 0) x (middle ∙ t))
+    pub halve-down : x ≤ p.limit.0 → Halving ws n x lo mid
+    halve-down t = go-down k (rw ep at t)
 
   pub halve-done : hi ≤ lo → FirstReach ws n x lo
   halve-done k =

@@ -1,3 +1,4 @@
+pub mod Orders
 pub mod Pairs
 pub mod Filling
 pub mod Canonical

@@ -1,5 +1,5 @@
 -- The entries of a good table that are read at a place: the ways out of `entry_at`, `reached`, `above` and `entry`. Assumes nothing.
-use Rattle.std.proofs.Common.{◌≡◌, ℕ, zero, suc, ◌+◌, ◌*◌, ◌/◌, ◌<◌, ◌≤◌, Bool, true, false, ltb, List, [], ◌∷◌, length, get_or, sym, refl, ap, ◌∙◌, arith, ltb-false, ltb-true, le-leb}
+use Rattle.std.proofs.Common.{◌≡◌, ℕ, zero, suc, ◌+◌, ◌*◌, ◌/◌, ◌<◌, ◌≤◌, ltb, List, [], ◌∷◌, length, get_or, sym, refl, ap, ◌∙◌, arith, ltb-true, le-leb}
 use borrow.Author.Tests.{lt-leb}
 use Rattle.units.specs.inner.Aims.{none_range}
 use Rattle.units.specs.declared.Addr.{Addr}
@@ -87,17 +87,17 @@ module _ (ws : List ℕ) (n : ℕ) (s : Rising ws n) where
     below-it : (j : ℕ) → j < k → j < n → get_or ws (2 * j) 0 < x.0
     below-it j h m = let o = pair-order j m in let b = p.below j h in omega arith
 
-    module _ (e : Entry) (ee : e ≡ entry_at ws n k) (b : Bool) (eb : b ≡ ltb e.here.base.0 x.0) where
-      here-base : k < n → ltb (get_or ws (2 * k) 0) x.0 ≡ b
-      here-base h = sym (eb ∙ ap (λ (y : Entry). ltb y.here.base.0 x.0) (ee ∙ at-inside ws n k h))
+    module _ (e : Entry) (ee : e ≡ entry_at ws n k) where
+      here-base : k < n → e.here.base.0 ≡ get_or ws (2 * k) 0
+      here-base h = ap (λ (y : Entry). y.here.base.0) (ee ∙ at-inside ws n k h)
 
-      pub from-here : b ≡ false → e ≡ entry_of (Aim.From x) (pairs ws n)
+      pub from-here : x.0 ≤ e.here.base.0 → e ≡ entry_of (Aim.From x) (pairs ws n)
       from-here f =
           ee ∙ kept_at ws n s (Aim.From x) refl k
           (λ j h m. lt-leb x.0 (get_or ws (2 * j) 0) (below-it j h m))
-          (λ h. le-leb x.0 (get_or ws (2 * k) 0) (ltb-false (get_or ws (2 * k) 0) x.0 (here-base h ∙ f)))
+          (λ h. let b = here-base h in le-leb x.0 (get_or ws (2 * k) 0) (omega arith))
 
-      pub from_next : b ≡ true → (q : Entry) → q ≡ entry_at ws n (k + 1) → q ≡ entry_of (Aim.From x) (pairs ws n)
+      pub from_next : e.here.base.0 < x.0 → (q : Entry) → q ≡ entry_at ws n (k + 1) → q ≡ entry_of (Aim.From x) (pairs ws n)
       from_next f q eq =
           eq ∙ kept_at ws n s (Aim.From x) refl (k + 1)
           (λ j h m. lt-leb x.0 (get_or ws (2 * j) 0) (before j h m))
@@ -108,7 +108,7 @@ module _ (ws : List ℕ) (n : ℕ) (s : Rising ws n) where
               by (ltb j k)
               (λ t. below-it j (ltb-true j k t) m)
               (λ t. let u : k ≡ j = omega tests in
-              let w : get_or ws (2 * k) 0 < x.0 = ltb-true (get_or ws (2 * k) 0) x.0 (here-base (omega arith) ∙ f) in
+              let b = here-base (omega arith) in let w : get_or ws (2 * k) 0 < x.0 = omega arith in
               rw u at w)
 
 -- an aim and a choice by their cases

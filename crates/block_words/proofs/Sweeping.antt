@@ -4,10 +4,9 @@ use Rattle.std.proofs.Common.{◌≡◌, ℕ, ◌+◌, ◌-◌, ◌/◌, ◌<◌
 use mathlib.Core.Bool.{and-true}
 use lib.Bits.{bit_and, bit_or, and_le_l, or_lt}
 use borrow.Author.Tests.{lt-leb}
-use Rattle.units.specs.inner.Parts.{soundness_of}
+use Rattle.units.specs.inner.Parts.{Checked, soundness_of}
 use Rattle.units.specs.declared.Size.{Size}
 use Rattle.units.specs.declared.rules.Arena.{Arena}
-use Rattle.units.specs.declared.rules.Soundness.{Soundness}
 use Rattle.units.proofs.Tests.{by, conj}
 use Rattle.units.proofs.Facts.{GoodArena, arena-facts}
 use Rattle.model.specs.Marks.{Range, size}
@@ -152,7 +151,7 @@ module _ (a : Arena) (ws : List ℕ) (n : ℕ) where
       pub going_less : n - v.next < n - u.next
       going_less = let q : v.next ≡ u.next + 1 = ap (λ (x : Sweep). x.next) e in omega arith
 
-    pub going_end : Ready a → n ≤ u.next → (bytes : Size) (r : Soundness) → r ≡ soundness_of (verdict_of a bytes u) →
+    pub going_end : Ready a → n ≤ u.next → (bytes : Size) (r : Checked) → r ≡ soundness_of (verdict_of a bytes u) →
         r ≡ soundness_of (sound_pairs a ws n bytes)
     going_end ready done bytes r e =
         let g = arena-facts a.base.0 a.limit.0 a.align.0 ready in

@@ -1,17 +1,18 @@
 -- The ways out of `pair_at` and of the functions on a sweep: its start, one pair further on, and the verdict. Assumes nothing.
-use Rattle.std.proofs.Common.{◌≡◌, ℕ, ◌+◌, ◌-◌, ◌*◌, ◌<◌, ◌≤◌, Bool, true, false, not, ◌&&◌, eqb, ltb, leb, List, get_or, sym, ap, ◌∙◌, ap₂, arith, ltb-false, ltb-true, eq-eqb, ne_eqb, eqb-true, le-leb}
+use Rattle.std.proofs.Common.{◌≡◌, ℕ, ◌+◌, ◌-◌, ◌*◌, ◌<◌, ◌≤◌, Bool, true, false, not, ◌&&◌, eqb, leb, List, get_or, sym, ap, ◌∙◌, ap₂, arith, eq-eqb, ne_eqb, eqb-true, le-leb}
 use mathlib.Core.Bool.{and-false}
 use lib.Bits.{bit_and, bit_or}
 use borrow.Author.Tests.{eqb-false, lt-leb}
+use Rattle.std.specs.Prelude.{Ok, Err}
 use Rattle.units.specs.Rules.{multiple, good_align}
-use Rattle.units.specs.inner.Parts.{soundness_of}
+use Rattle.units.specs.inner.Parts.{Checked, soundness_of}
 use Rattle.units.specs.Words.{range_of}
 use Rattle.units.specs.declared.Addr.{Addr}
 use Rattle.units.specs.declared.Align.{Align}
 use Rattle.units.specs.declared.Range.{Range}
 use Rattle.units.specs.declared.Size.{Size}
 use Rattle.units.specs.declared.rules.Arena.{Arena}
-use Rattle.units.specs.declared.rules.Soundness.{Soundness}
+use Rattle.units.specs.declared.refusals.Refusal.{Refusal}
 use Rattle.units.proofs.Tests.{by}
 use Rattle.units.proofs.Alignments.{align-positive}
 use Rattle.units.proofs.Ways.{said-true, said-false}
@@ -50,7 +51,7 @@ eqb-sym : (x y : ℕ) → eqb x y ≡ eqb y x
 eqb-sym x y = by (eqb x y) (λ e. e ∙ sym (eq-eqb y x (sym (eqb-true x y e)))) (λ e. e ∙ sym (ne_eqb y x (λ z. eqb-false x y e (sym z))))
 
 module _ (arena : Arena) (bytes : Size) (s : Sweep) where
-  abbrev given : Soundness
+  abbrev given : Checked
   given = soundness_of (verdict_of arena bytes s)
 
   -- a word with its top bit, and words that do not ascend
@@ -60,45 +61,41 @@ module _ (arena : Arena) (bytes : Size) (s : Sweep) where
   pub is-falling : s.rising < 9223372036854775808 → verdict_of arena bytes s ≡ false
   is-falling k = rw (lt-leb 9223372036854775808 s.rising k, and-false (not (top s.bits)))
 
-  pub verdict-top : 9223372036854775808 ≤ s.bits → Soundness.Damaged ≡ given
+  pub verdict-top : 9223372036854775808 ≤ s.bits → Err Refusal.Damaged ≡ given
   verdict-top k = ap soundness_of (sym (is-high k))
 
-  pub verdict-falls : s.rising < 9223372036854775808 → Soundness.Damaged ≡ given
+  pub verdict-falls : s.rising < 9223372036854775808 → Err Refusal.Damaged ≡ given
   verdict-falls k = ap soundness_of (sym (is-falling k))
 
-  module _ (k : s.bits < 9223372036854775808) (t : 9223372036854775808 ≤ s.rising)
-      (p : Addr) (ep : p.0 ≡ s.past) (h : Bool) (eh : h ≡ ltb arena.limit.0 p.0) where
+  module _ (k : s.bits < 9223372036854775808) (t : 9223372036854775808 ≤ s.rising) (p : Addr) (ep : p.0 ≡ s.past) where
     -- what is left to judge
     left : verdict_of arena bytes s ≡ (leb s.past arena.limit.0 && (multiple arena.align.0 s.bits && eqb bytes.0 s.bytes))
     left = rw (lt-leb 9223372036854775808 s.bits k, le-leb 9223372036854775808 s.rising t)
 
-    pub verdict-high : h ≡ true → Soundness.Damaged ≡ given
-    verdict-high f =
-        let q = ltb-true arena.limit.0 p.0 (sym eh ∙ f) in
-        rw (left, lt-leb s.past arena.limit.0 (omega arith))
+    pub verdict-high : arena.limit.0 < p.0 → Err Refusal.Damaged ≡ given
+    verdict-high f = rw (left, lt-leb s.past arena.limit.0 (omega arith))
 
     module _ (a : Align) (ea : a.0 ≡ arena.align.0) (m : Bool) (em : m ≡ multiple a.0 s.bits) where
       aligned : m ≡ multiple arena.align.0 s.bits
       aligned = em ∙ ap (λ (n : ℕ). multiple n s.bits) ea
 
-      pub verdict-odd : not m ≡ true → Soundness.Damaged ≡ given
+      pub verdict-odd : not m ≡ true → Err Refusal.Damaged ≡ given
       verdict-odd f =
           rw (left, said-false m (multiple arena.align.0 s.bits) aligned f, and-false (leb s.past arena.limit.0))
 
-      module _ (fh : h ≡ false) (fm : not m ≡ false) (y : Size) (ey : y.0 ≡ s.bytes) (u : Bool) (eu : u ≡ eqb y.0 bytes.0) where
+      module _ (fh : p.0 ≤ arena.limit.0) (fm : not m ≡ false) (y : Size) (ey : y.0 ≡ s.bytes) (u : Bool) (eu : u ≡ eqb y.0 bytes.0) where
         verdict-is : u ≡ verdict_of arena bytes s
         verdict-is =
-            let q = ltb-false arena.limit.0 p.0 (sym eh ∙ fh) in
             rw (
               left,
               le-leb s.past arena.limit.0 (omega arith),
               said-true m (multiple arena.align.0 s.bits) aligned fm,
             ) (eu ∙ ap (λ (n : ℕ). eqb n bytes.0) ey ∙ eqb-sym s.bytes bytes.0)
 
-        pub verdict-bytes : not u ≡ true → Soundness.Damaged ≡ given
+        pub verdict-bytes : not u ≡ true → Err Refusal.Damaged ≡ given
         verdict-bytes f = rw (said-false u (verdict_of arena bytes s) verdict-is f)
 
-        pub verdict-good : not u ≡ false → Soundness.Sound ≡ given
+        pub verdict-good : not u ≡ false → Ok tt ≡ given
         verdict-good f = rw (said-true u (verdict_of arena bytes s) verdict-is f)
 
 module _ (arena : Arena) (g : Ready arena) where

@@ -72,27 +72,27 @@ module _ (ws : List ℕ) (n : ℕ) (start : Size) where
       pub weigh-order : r.base.0 ≤ r.limit.0
       weigh-order = rising-order ws n j.rising i h r er
 
-      module _ (z : Size) (ez : z.0 ≡ length_of r) (b : Bool) (eb : b ≡ ltb most.0 z.0) where
+      module _ (z : Size) (ez : z.0 ≡ length_of r) where
         long : z.0 ≡ length_of (pair_at ws i)
         long = ez ∙ ap length_of er
 
         module _ (size : Size) (es : start.0 ≡ size.0 - 1) where
-          tested : takes (aim_at size) (entry_at ws n number).here (pair_at ws i) ≡ b
-          tested = j.weighs size es (pair_at ws i) (pair-order ws n j.rising i h) ∙ sym (eb ∙ ap (ltb most.0) long)
+          tested : takes (aim_at size) (entry_at ws n number).here (pair_at ws i) ≡ ltb most.0 z.0
+          tested = j.weighs size es (pair_at ws i) (pair-order ws n j.rising i h) ∙ sym (ap (ltb most.0) long)
 
-          kept_by : (c : Bool) → b ≡ c →
+          kept_by : (c : Bool) → ltb most.0 z.0 ≡ c →
               entered (aim_at size) (cond c (entry i (pair_at ws i)) (entry_at ws n number)) (i + 1) (behind ws n (i + 1)) ≡ entry_of (aim_at size) (pairs ws n)
           kept_by c f =
               ap (λ (x : Bool). entered (aim_at size) (cond x (entry i (pair_at ws i)) (entry_at ws n number)) (i + 1) (behind ws n (i + 1))) (sym (tested ∙ f))
               ∙ sym (ap (entered (aim_at size) (entry_at ws n number) i) (pairs-at ws n i h j.rising.fits)) ∙ j.left size es
 
           -- it is long enough, and then only a longer one is taken
-          enough : b ≡ true → size.0 ≤ length_of (pair_at ws i)
+          enough : most.0 < z.0 → size.0 ≤ length_of (pair_at ws i)
           enough f =
               ltb-false (length_of (pair_at ws i)) size.0
-              (not-true (ltb (length_of (pair_at ws i)) size.0) (and_left (not (ltb (length_of (pair_at ws i)) size.0)) _ (tested ∙ f)))
+              (not-true (ltb (length_of (pair_at ws i)) size.0) (and_left (not (ltb (length_of (pair_at ws i)) size.0)) _ (tested ∙ lt-ltb most.0 z.0 f)))
 
-          longer : b ≡ true → (q : Range) → takes (aim_at size) (pair_at ws i) q ≡ ltb z.0 (length_of q)
+          longer : most.0 < z.0 → (q : Range) → takes (aim_at size) (pair_at ws i) q ≡ ltb z.0 (length_of q)
           longer f q =
               let e = enough f in
               let u : is_none (pair_at ws i) ≡ false = ne_eqb (get_or ws (2 * i) 0) 0 (λ x. let p = pair-above ws n j.rising i h in omega arith) in
@@ -101,16 +101,16 @@ module _ (ws : List ℕ) (n : ℕ) (start : Size) where
               rw (u, long, t, le-ltb (length_of q) size.0 (omega arith)))
               (λ t. rw (u, long, t, and-false (not (ltb (length_of q) size.0))))
 
-        pub weigh-left : b ≡ false → Weighing ws n start most number (i + 1)
-        weigh-left f = record { rising = j.rising; upto = omega arith; left = λ size e. kept_by size e false f; weighs = j.weighs }
+        pub weigh-left : z.0 ≤ most.0 → Weighing ws n start most number (i + 1)
+        weigh-left f = record { rising = j.rising; upto = omega arith; left = λ size e. kept_by size e false (le-ltb most.0 z.0 f); weighs = j.weighs }
 
-        pub weigh-taken : b ≡ true → Weighing ws n start z i (i + 1)
+        pub weigh-taken : most.0 < z.0 → Weighing ws n start z i (i + 1)
         weigh-taken f =
             let a = at-inside ws n i h in
             record {
               rising = j.rising;
               upto = omega arith;
-              left = λ size e. rw a (kept_by size e true f);
+              left = λ size e. rw a (kept_by size e true (lt-ltb most.0 z.0 f));
               weighs = λ size e q o. ap (λ (x : Entry). takes (aim_at size) x.here q) a ∙ longer size e f q;
             }
 

@@ -13,20 +13,13 @@ ghost use Rattle.block_words.specs.Words.{all_zero, sound_table};
 ghost use Rattle.block_words.specs.inner.Tallies.{pair_at, Ready};
 ghost use Rattle.block_words.specs.inner.Surveys.{tidy, survey_of};
 
-use units::{Addr, Aim, Arena, Range, Size, Soundness};
+use units::{Addr, Aim, Arena, Range, Refusal, Size};
 
 // A range of the table and its number. Where there is none: (0, 0), and the number of ranges.
 #[derive(Clone, Copy)]
 pub struct Entry {
     pub number: usize,
     pub here: Range,
-}
-
-// What is found of the whole table: damage, or the entry aimed at.
-#[derive(Clone, Copy)]
-pub enum Verdict {
-    Damaged,
-    Sound(Entry),
 }
 
 // Range number i.
@@ -55,37 +48,39 @@ fn is_zero(words: &[u64], n: usize) -> bool
 }
 
 // Whether there is room for so many ranges, and every pair word behind them is 0.
-fn tidy(words: &[u64], ranges: u64) -> Soundness
+fn tidy(words: &[u64], ranges: u64) -> Result<(), Refusal>
     ensures { result ≡ soundness_of (tidy words.now ranges) }
 {
     let m = words.len() / 2;
     if (m as u64) < ranges {
-        return Soundness::Damaged;
+        return Err(Refusal::Damaged);
     }
     if !is_zero(words, ranges as usize) {
-        return Soundness::Damaged;
+        return Err(Refusal::Damaged);
     }
-    Soundness::Sound
+    Ok(())
 }
 
 // Whether the table is sound, where the handle has so many ranges and bytes: the zeros behind the pairs, then the pairs.
-pub fn sound(arena: Arena, words: &[u64], ranges: u64, bytes: Size) -> Soundness
+pub fn sound(arena: Arena, words: &[u64], ranges: u64, bytes: Size) -> Result<(), Refusal>
     requires { Ready arena }
     ensures { result ≡ soundness_of (sound_table arena.base.0 arena.limit.0 arena.align.0 words.now ranges bytes.0) }
 {
-    let Soundness::Sound = tidy(words, ranges) else {
-        return Soundness::Damaged;
-    };
+    tidy(words, ranges)?;
     sweep::judge(arena, words, ranges as usize, bytes)
 }
 
 // What is found of the whole table: damage, or what the aim keeps.
-pub fn survey(arena: Arena, words: &[u64], ranges: u64, bytes: Size, aim: Aim) -> Verdict
+pub fn survey(
+    arena: Arena,
+    words: &[u64],
+    ranges: u64,
+    bytes: Size,
+    aim: Aim,
+) -> Result<Entry, Refusal>
     requires { Ready arena }
     ensures { result ≡ survey_of arena words.now ranges bytes aim }
 {
-    let Soundness::Sound = sound(arena, words, ranges, bytes) else {
-        return Verdict::Damaged;
-    };
-    Verdict::Sound(seeks::entry(words, ranges as usize, aim))
+    sound(arena, words, ranges, bytes)?;
+    Ok(seeks::entry(words, ranges as usize, aim))
 }

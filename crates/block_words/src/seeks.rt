@@ -18,7 +18,7 @@ pub fn first_reach(words: &[u64], n: usize, x: Addr) -> usize
     while lo < hi {
         let mid = (lo + hi) / 2;
         let pair = crate::pair_at(words, mid);
-        if pair.limit.lt(x) {
+        if pair.limit < x {
             lo = mid + 1;
         } else {
             hi = mid;
@@ -56,7 +56,7 @@ fn above(words: &[u64], n: usize, x: Addr) -> Entry
 {
     let i = first_reach(words, n, x);
     let first = entry_at(words, n, i);
-    if first.here.base.lt(x) {
+    if first.here.base < x {
         return entry_at(words, n, i + 1);
     }
     first
@@ -72,7 +72,7 @@ fn first(words: &[u64], n: usize, size: Size) -> Entry
         let number = i;
         i += 1;
         let here = crate::pair_at(words, number);
-        if size.le(here.size()) {
+        if size <= here.size() {
             return Entry { number, here };
         }
     }
@@ -88,7 +88,7 @@ fn last(words: &[u64], n: usize, size: Size) -> Entry
     while 0 < i {
         i -= 1;
         let range = crate::pair_at(words, i);
-        if size.le(range.size()) {
+        if size <= range.size() {
             return Entry {
                 number: i,
                 here: range,
@@ -121,7 +121,7 @@ fn largest(words: &[u64], n: usize, size: Size) -> Entry
         i += 1;
         let here = crate::pair_at(words, at);
         let long = here.size();
-        if most.lt(long) {
+        if most < long {
             most = long;
             number = at;
         }

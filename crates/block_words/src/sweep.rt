@@ -4,7 +4,7 @@ ghost use Rattle.std.specs.Prelude.{◌≡◌, ◌/◌, ◌<◌, ◌≤◌, leng
 ghost use Rattle.units.specs.inner.Parts.{soundness_of};
 ghost use Rattle.block_words.specs.inner.Tallies.{Ready, below, start_of, swept_at, verdict_of, sound_pairs};
 
-use units::{Addr, Arena, Size, Soundness};
+use units::{Addr, Arena, Refusal, Size};
 
 // Where a sweep stands: the number of pairs met, the limit of the last, a number whose top bit is set exactly if all words
 // ascend, all words OR-ed, and their bytes. The numbers are modulo 2^64.
@@ -61,32 +61,32 @@ impl Sweep {
 
     // Whether the pairs met are good. A word with a top bit is above every arena. Limits ascend, so the last alone is compared
     // with the arena's; words OR-ed are aligned exactly if each of them is.
-    fn verdict(self, arena: Arena, bytes: Size) -> Soundness
+    fn verdict(self, arena: Arena, bytes: Size) -> Result<(), Refusal>
         requires { Ready arena }
         ensures { result ≡ soundness_of (verdict_of arena bytes self) }
     {
         if self.bits >= 9223372036854775808 {
-            return Soundness::Damaged;
+            return Err(Refusal::Damaged);
         }
         if self.rising < 9223372036854775808 {
-            return Soundness::Damaged;
+            return Err(Refusal::Damaged);
         }
-        if arena.limit.lt(Addr::new(self.past)) {
-            return Soundness::Damaged;
+        if arena.limit < Addr::new(self.past) {
+            return Err(Refusal::Damaged);
         }
         let align = arena.align.bit();
         if !align.divides(self.bits) {
-            return Soundness::Damaged;
+            return Err(Refusal::Damaged);
         }
-        if !Size::new(self.bytes).same(bytes) {
-            return Soundness::Damaged;
+        if Size::new(self.bytes) != bytes {
+            return Err(Refusal::Damaged);
         }
-        Soundness::Sound
+        Ok(())
     }
 }
 
 // Whether the first n pairs are good and have so many bytes.
-pub(crate) fn judge(arena: Arena, words: &[u64], n: usize, bytes: Size) -> Soundness
+pub(crate) fn judge(arena: Arena, words: &[u64], n: usize, bytes: Size) -> Result<(), Refusal>
     requires ready { Ready arena }
     requires n_in_bounds { n ≤ length words.now / 2 }
     ensures { result ≡ soundness_of (sound_pairs arena words.now n bytes) }

@@ -5,6 +5,7 @@ use mathlib.Core.List.{List}
 use mathlib.Core.Path.{◌≡◌, sym, ap, ◌∙◌}
 use native.Mathlib.Omega.{arith}
 use lib.ListN.{length, length-append}
+use Rattle.std.specs.Prelude.{Result, Ok, Err}
 use Rattle.units.specs.Words.{addr}
 use Rattle.units.specs.declared.Size.{Size}
 use Rattle.units.specs.declared.rules.Arena as units
@@ -27,24 +28,23 @@ use Rattle.list_land.proofs.Sound as list-sound
 use Rattle.block_land.specs.Layout as block
 use Rattle.block_land.specs.declared.BlockLand.{BlockLand}
 use Rattle.block_land.proofs.LayoutLaws as block-laws
-use Rattle.flush.specs.Flush.{refusal, check_of, moves, done, flushed}
+use Rattle.flush.specs.Flush.{refusal, check_number, check_of, moves, done, flushed}
 use Rattle.transfers.specs.inner.Transfers.{Going, table_arena, flush_of, transfer_of, transfer_words}
-use Rattle.flush.specs.declared.FlushCheck.{FlushCheck}
+use Rattle.flush.specs.declared.FlushError.{FlushError}
 use Rattle.flush.specs.declared.Flushed.{Flushed}
 use Rattle.transfers.specs.declared.Moved.{Moved}
 use Rattle.flush.proofs.FlushKeeps.{Checked, checked, is-accepted, list_fine, block_fine, one, keeps, same-apart, same-aligned}
 
 -- A REFUSAL
-pub refused : (h : ListLand) (ws : List ℕ) (k : BlockLand) (vs : List ℕ) (c : FlushCheck) → c ≡ check_of h ws k vs → (x : FlushCheck) → c ≡ x → (n : ℕ) →
-    done h ws k vs x ≡ record { result = refusal h k n; nodes = vs } → (w : Flushed) → w ≡ refusal h k n →
-    (w ≡ (flushed h ws k vs).result) × (vs ≡ (flushed h ws k vs).nodes)
+pub refused : (h : ListLand) (ws : List ℕ) (k : BlockLand) (vs : List ℕ) (c : Result (Unit {0}) FlushError) → c ≡ check_of h ws k vs → (x : FlushError) → c ≡ Err x →
+    (w : Flushed) → w ≡ refusal h k (check_number (Err x)) → (w ≡ (flushed h ws k vs).result) × (vs ≡ (flushed h ws k vs).nodes)
 unfolding flushed
-refused h ws k vs c ec x ex n d w ew =
-    let e : done h ws k vs (check_of h ws k vs) ≡ record { result = refusal h k n; nodes = vs } = ap (done h ws k vs) (sym ec ∙ ex) ∙ d in
+refused h ws k vs c ec x ex w ew =
+    let e : done h ws k vs (check_of h ws k vs) ≡ record { result = refusal h k (check_number (Err x)); nodes = vs } = ap (done h ws k vs) (sym ec ∙ ex) in
     (rw e ew, rw e)
 
 -- A FLUSH WHOSE CHECKS ARE GOOD
-module _ (h : ListLand) (ws : List ℕ) (k : BlockLand) (vs : List ℕ) (g : check_of h ws k vs ≡ FlushCheck.Good) where
+module _ (h : ListLand) (ws : List ℕ) (k : BlockLand) (vs : List ℕ) (g : check_of h ws k vs ≡ Ok tt) where
   c : Checked h ws k vs
   c = checked h ws k vs g
 

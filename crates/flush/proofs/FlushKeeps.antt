@@ -7,6 +7,7 @@ use native.Mathlib.Omega.{arith}
 use lib.Dec.{eqb}
 use lib.ListN.{length, length-append}
 use borrow.Author.Tests.{le-leb, leb-true, eqb-true}
+use Rattle.std.specs.Prelude.{Result, Ok, Err}
 use Rattle.units.proofs.Tests.{by, and_left, and_right}
 use Rattle.model.specs.Marks.{Range}
 use Rattle.model.specs.inner.Lists.{Apart, Aligned}
@@ -27,7 +28,7 @@ use Rattle.block_land.specs.declared.BlockLand.{BlockLand}
 use Rattle.block_land.proofs.Sound as block-sound
 use Rattle.block_land.proofs.LayoutLaws.{block-laws, read-filled}
 use Rattle.flush.specs.Flush.{Done, same_arena, check_number, check_of, moves, accepted, done, flushed}
-use Rattle.flush.specs.declared.FlushCheck.{FlushCheck}
+use Rattle.flush.specs.declared.FlushError.{FlushError}
 use Rattle.flush.specs.Claims.{Kept, FlushKeeps}
 
 -- the checks of an accepted flush
@@ -38,11 +39,11 @@ pub record Checked (h : ListLand) (ws : List ℕ) (k : BlockLand) (vs : List ℕ
   pub list-sound : list.sound h ws ≡ true
   pub block-sound : block.sound k vs ≡ true
 
-no-case : {P : Type 0} {x : FlushCheck} → x ≡ FlushCheck.Good → {n : ℕ} → check_number x ≡ suc n → P
+no-case : {P : Type 0} {x : Result (Unit {0}) FlushError} → x ≡ Ok tt → {n : ℕ} → check_number x ≡ suc n → P
 no-case e f = let z : ◌≡◌ {A = ℕ} 0 (suc _) = sym (ap check_number e) ∙ f in absurd (omega arith)
 
 -- the case of the check
-pub checked : (h : ListLand) (ws : List ℕ) (k : BlockLand) (vs : List ℕ) → check_of h ws k vs ≡ FlushCheck.Good → Checked h ws k vs
+pub checked : (h : ListLand) (ws : List ℕ) (k : BlockLand) (vs : List ℕ) → check_of h ws k vs ≡ Ok tt → Checked h ws k vs
 unfolding check_of
 checked h ws k vs e =
     by (list.set_up h ws)
@@ -51,20 +52,20 @@ checked h ws k vs e =
     (λ s. by (list.sound h ws)
     (λ t. by (block.sound k vs)
     (λ u. record { list_up = p; block_up = q; same = s; list-sound = t; block-sound = u })
-    (λ u. let z : FlushCheck.BlockDamaged ≡ FlushCheck.Good = rw (p, q, s, t, u) at e in no-case z refl))
-    (λ t. let z : FlushCheck.ListDamaged ≡ FlushCheck.Good = rw (p, q, s, t) at e in no-case z refl))
-    (λ s. let z : FlushCheck.Differ ≡ FlushCheck.Good = rw (p, q, s) at e in no-case z refl))
-    (λ q. let z : FlushCheck.BlockSetUp ≡ FlushCheck.Good = rw (p, q) at e in no-case z refl))
-    (λ p. let z : FlushCheck.ListSetUp ≡ FlushCheck.Good = rw p at e in no-case z refl)
+    (λ u. let z : Err FlushError.BlockDamaged ≡ Ok tt = rw (p, q, s, t, u) at e in no-case z refl))
+    (λ t. let z : Err FlushError.ListDamaged ≡ Ok tt = rw (p, q, s, t) at e in no-case z refl))
+    (λ s. let z : Err FlushError.Differ ≡ Ok tt = rw (p, q, s) at e in no-case z refl))
+    (λ q. let z : Err FlushError.BlockSetUp ≡ Ok tt = rw (p, q) at e in no-case z refl))
+    (λ p. let z : Err FlushError.ListSetUp ≡ Ok tt = rw p at e in no-case z refl)
 
 -- only a good check is answered 0
-good-check : (h : ListLand) (ws : List ℕ) (k : BlockLand) (vs : List ℕ) (x : FlushCheck) → (done h ws k vs x).result.answer ≡ 0 → x ≡ FlushCheck.Good
-good-check h ws k vs FlushCheck.Good e = refl
-good-check h ws k vs FlushCheck.ListSetUp e = absurd (omega arith)
-good-check h ws k vs FlushCheck.BlockSetUp e = absurd (omega arith)
-good-check h ws k vs FlushCheck.Differ e = absurd (omega arith)
-good-check h ws k vs FlushCheck.ListDamaged e = absurd (omega arith)
-good-check h ws k vs FlushCheck.BlockDamaged e = absurd (omega arith)
+good-check : (h : ListLand) (ws : List ℕ) (k : BlockLand) (vs : List ℕ) (x : Result (Unit {0}) FlushError) → (done h ws k vs x).result.answer ≡ 0 → x ≡ Ok tt
+good-check h ws k vs (Ok u) e = refl
+good-check h ws k vs (Err FlushError.ListSetUp) e = absurd (omega arith)
+good-check h ws k vs (Err FlushError.BlockSetUp) e = absurd (omega arith)
+good-check h ws k vs (Err FlushError.Differ) e = absurd (omega arith)
+good-check h ws k vs (Err FlushError.ListDamaged) e = absurd (omega arith)
+good-check h ws k vs (Err FlushError.BlockDamaged) e = absurd (omega arith)
 
 -- sound lands are read
 list-reads : (h : ListLand) (ws : List ℕ) → list.set_up h ws ≡ true → list.sound h ws ≡ true → list.read_of h ws ≡ holding (list.walk_of h ws).met

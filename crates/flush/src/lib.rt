@@ -4,15 +4,16 @@
 // Every function here is proved, and the crate assumes nothing of its own.
 #![tactic(auto)]
 
-ghost use Rattle.std.specs.Prelude.{◌≡◌};
+ghost use Rattle.std.specs.Prelude.{◌≡◌, Ok, Err};
+ghost use Rattle.units.specs.Rules.{refusal_number};
 ghost use Rattle.units.specs.inner.Parts.{set_up_of};
-ghost use Rattle.flush.specs.Flush.{same_arena, refusal, check_of, flushed};
+ghost use Rattle.flush.specs.Flush.{same_arena, refusal, check_number, check_of, flushed};
 ghost use Rattle.flush.specs.inner.Checks.{if_same, behind_damaged, behind_sound};
-ghost use Rattle.flush.specs.declared.FlushCheck.TheVariants.{Good};
+ghost use Rattle.transfers.specs.inner.Transfers.{stop_number};
 
 use block_land::BlockLand;
 use list_land::ListLand;
-use units::{Aim, SetUp};
+use units::{Aim, Refusal};
 
 // What a flush returns: both next handles, the answer's number, the number of ranges moved, and the refusal that stopped it, or 0.
 #[repr(C)]
@@ -25,10 +26,9 @@ pub struct Flushed {
     pub stop: u64,
 }
 
-// Good, or the first that fails: the set-up of the list, of the block land, one arena for both, a sound list, a sound table.
-#[derive(Clone, Copy)]
-pub enum FlushCheck {
-    Good,
+// The first check that fails: the set-up of the list, of the block land, one arena for both, a sound list, a sound table.
+#[derive(Clone, Copy, Debug, PartialEq, Eq)]
+pub enum FlushError {
     ListSetUp,
     BlockSetUp,
     Differ,
@@ -36,79 +36,108 @@ pub enum FlushCheck {
     BlockDamaged,
 }
 
-fn refused(list: ListLand, block: BlockLand, answer: u64) -> Flushed
-    ensures { result ≡ refusal list block answer }
+impl FlushError {
+    // How a flush is refused for it.
+    fn refusal(self) -> Refusal
+        ensures { refusal_number result ≡ check_number (Err self) }
+    {
+        match self {
+            FlushError::ListSetUp => Refusal::SetUp,
+            FlushError::BlockSetUp => Refusal::SetUp,
+            FlushError::Differ => Refusal::SetUp,
+            FlushError::ListDamaged => Refusal::Damaged,
+            FlushError::BlockDamaged => Refusal::Damaged,
+        }
+    }
+}
+
+fn refused(list: ListLand, block: BlockLand, error: FlushError) -> Flushed
+    ensures { result ≡ refusal list block (check_number (Err error)) }
 {
     Flushed {
         list,
         block,
-        answer,
+        answer: error.refusal().number(),
         moved: 0,
         stop: 0,
     }
 }
 
 // Whether base, limit and alignment of the two lands are the same.
-pub fn same_arena(list: ListLand, block: BlockLand) -> SetUp
+pub fn same_arena(list: ListLand, block: BlockLand) -> Result<(), Refusal>
     ensures { result ≡ set_up_of (same_arena list block) }
 {
-    if !list.base.same(block.base) {
-        return SetUp::Bad;
+    if list.base != block.base {
+        return Err(Refusal::SetUp);
     }
-    if !list.limit.same(block.limit) {
-        return SetUp::Bad;
+    if list.limit != block.limit {
+        return Err(Refusal::SetUp);
     }
-    if !list.align.same(block.align) {
-        return SetUp::Bad;
+    if list.align != block.align {
+        return Err(Refusal::SetUp);
     }
-    SetUp::Good
+    Ok(())
 }
 
 // A check that comes behind the difference of the two lands.
-fn if_same(list: ListLand, block: BlockLand, check: FlushCheck) -> FlushCheck
+fn if_same(list: ListLand, block: BlockLand, check: Result<(), FlushError>) -> Result<(), FlushError>
     ensures { result ≡ if_same list block check }
 {
-    let SetUp::Good = same_arena(list, block) else {
-        return FlushCheck::Differ;
+    let Ok(()) = same_arena(list, block) else {
+        return Err(FlushError::Differ);
     };
     check
 }
 
 // The checks behind the set-up of a list that is not sound.
-fn check_damaged(list: ListLand, block: BlockLand, nodes: &[u64]) -> FlushCheck
+fn check_damaged(list: ListLand, block: BlockLand, nodes: &[u64]) -> Result<(), FlushError>
     ensures { result ≡ behind_damaged list block nodes.now }
 {
-    let SetUp::Good = block.set_up(nodes) else {
-        return FlushCheck::BlockSetUp;
+    let Ok(()) = block.set_up(nodes) else {
+        return Err(FlushError::BlockSetUp);
     };
-    if_same(list, block, FlushCheck::ListDamaged)
+    if_same(list, block, Err(FlushError::ListDamaged))
 }
 
 // The checks behind the set-up of a sound list.
-fn check_sound(list: ListLand, block: BlockLand, nodes: &[u64]) -> FlushCheck
+fn check_sound(list: ListLand, block: BlockLand, nodes: &[u64]) -> Result<(), FlushError>
     ensures { result ≡ behind_sound list block nodes.now }
 {
     match block.look(nodes, Aim::Nothing) {
-        block_land::Look::BadSetUp => FlushCheck::BlockSetUp,
-        block_land::Look::Damaged => if_same(list, block, FlushCheck::BlockDamaged),
-        block_land::Look::Sound(_) => if_same(list, block, FlushCheck::Good),
+        Ok(_) => if_same(list, block, Ok(())),
+        Err(refusal) => match refusal {
+            Refusal::SetUp => Err(FlushError::BlockSetUp),
+            _ => if_same(list, block, Err(FlushError::BlockDamaged)),
+        },
     }
 }
 
 // The checks of a flush: the first that fails. Each land is looked at once; what it says of the set-up comes first.
-pub fn check(list: ListLand, words: &[u64], block: BlockLand, nodes: &[u64]) -> FlushCheck
+pub fn check(list: ListLand, words: &[u64], block: BlockLand, nodes: &[u64]) -> Result<(), FlushError>
     ensures { result ≡ check_of list words.now block nodes.now }
 {
     match list.look(words, Aim::Nothing) {
-        list_land::Look::BadSetUp => FlushCheck::ListSetUp,
-        list_land::Look::Damaged => check_damaged(list, block, nodes),
-        list_land::Look::Sound(_) => check_sound(list, block, nodes),
+        Ok(_) => check_sound(list, block, nodes),
+        Err(refusal) => match refusal {
+            Refusal::SetUp => Err(FlushError::ListSetUp),
+            _ => check_damaged(list, block, nodes),
+        },
+    }
+}
+
+// The number of the refusal that stopped a transfer, or 0.
+fn stop_number(stop: Option<Refusal>) -> u64
+    ensures { result ≡ stop_number stop }
+{
+    match stop {
+        Some(refusal) => refusal.number(),
+        None => 0,
     }
 }
 
 // A flush whose checks are good.
 fn flush_all(list: ListLand, words: &[u64], block: BlockLand, nodes: &mut [u64]) -> Flushed
-    requires { check_of list words.now block nodes.old ≡ Good }
+    requires { check_of list words.now block nodes.old ≡ Ok tt }
     ensures { (result ≡ (flushed list words.now block nodes.old).result) × (nodes.new ≡ (flushed list words.now block nodes.old).nodes) }
 {
     let head = list.head;
@@ -120,7 +149,7 @@ fn flush_all(list: ListLand, words: &[u64], block: BlockLand, nodes: &mut [u64])
         block: block.close(done.count, block.bytes.plus(bytes)),
         answer: 0,
         moved: done.moved,
-        stop: done.stop,
+        stop: stop_number(done.stop),
     }
 }
 
@@ -130,11 +159,7 @@ pub fn flush(list: ListLand, words: &[u64], block: BlockLand, nodes: &mut [u64])
     ensures { (result ≡ (flushed list words.now block nodes.old).result) × (nodes.new ≡ (flushed list words.now block nodes.old).nodes) }
 {
     match check(list, words, block, nodes) {
-        FlushCheck::Good => flush_all(list, words, block, nodes),
-        FlushCheck::ListSetUp => refused(list, block, 5),
-        FlushCheck::BlockSetUp => refused(list, block, 5),
-        FlushCheck::Differ => refused(list, block, 5),
-        FlushCheck::ListDamaged => refused(list, block, 6),
-        FlushCheck::BlockDamaged => refused(list, block, 6),
+        Ok(()) => flush_all(list, words, block, nodes),
+        Err(error) => refused(list, block, error),
     }
 }

@@ -7,11 +7,11 @@ ghost use Rattle.list_land.specs.inner.Parts.{reach_limit};
 ghost use Rattle.pair.specs.inner.Deletes.{begins, Asked, Unlisted, Spilling, Nowhere};
 
 use crate::edits::{take_listed, take_tabled};
-use crate::{Changed, Pair, PairCheck, refused};
+use crate::{Changed, Pair, refused};
 use block_edits::TableEdited;
 use block_words::Entry;
 use list_words::Spot;
-use units::{Aim, Range, RangeCheck};
+use units::{Aim, Range, Refusal};
 
 // Whether there is a range, and it begins at or below the request.
 fn begins_below(range: Range, here: Range) -> bool
@@ -20,7 +20,7 @@ fn begins_below(range: Range, here: Range) -> bool
     if here.base.is_zero() {
         return false;
     }
-    here.base.le(range.base)
+    here.base <= range.base
 }
 
 impl Pair {
@@ -33,10 +33,10 @@ impl Pair {
         let head = list.head;
         let listed = pair_words::list_share(list.arena(), words, head, range);
         let tabled = pair_words::table_share(nodes, self.block.ranges, range);
-        if listed.plus(tabled).same(range.size()) {
-            return refused(self, 7);
+        if listed.plus(tabled) == range.size() {
+            return refused(self, Refusal::InBoth);
         }
-        refused(self, 1)
+        refused(self, Refusal::Overlap)
     }
 
     // The lower fragment stays in the block land, and the upper goes to the list.
@@ -135,8 +135,8 @@ impl Pair {
         requires { Checked self words.old nodes.old (reach_limit range) spot entry }
         ensures { (result ≡ changed (deleted self words.old nodes.old range)) × (words.new ≡ (deleted self words.old nodes.old range).words.list) × (nodes.new ≡ (deleted self words.old nodes.old range).words.block) }
     {
-        let RangeCheck::Good = self.block.arena().divided().check_range(range) else {
-            return refused(self, 4);
+        let Ok(()) = self.block.arena().divided().check_range(range) else {
+            return refused(self, Refusal::Request);
         };
         self.delete_good(words, nodes, range, spot, entry)
     }
@@ -148,13 +148,8 @@ impl Pair {
     {
         let limit = range.limit;
         match self.check(words, nodes, Aim::Reach(limit)) {
-            PairCheck::BadSetUp => refused(self, 5),
-            PairCheck::Damaged => refused(self, 6),
-            PairCheck::Good(s, e) => {
-                let spot = s;
-                let entry = e;
-                self.delete_at(words, nodes, range, spot, entry)
-            }
+            Ok((spot, entry)) => self.delete_at(words, nodes, range, spot, entry),
+            Err(refusal) => refused(self, refusal),
         }
     }
 }

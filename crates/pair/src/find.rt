@@ -10,15 +10,14 @@ ghost use Rattle.pair.specs.inner.Parts.{aim_in, Checked};
 ghost use Rattle.pair.specs.inner.Finding.{Ordered, side_of, ListChosen, BlockChosen, list_found, block_found};
 
 use crate::edits::{take_listed, take_tabled};
-use crate::{Found, Pair, PairCheck, none_found};
+use crate::{Found, Pair, none_found};
 use block_words::Entry;
 use list_words::Spot;
-use units::{Aim, Mode, Range, Size, SizeCheck, Which};
+use units::{Aim, Mode, Range, Refusal, Size, Which};
 
 // The land whose range is taken.
-#[derive(Clone, Copy)]
+#[derive(Clone, Copy, Debug, PartialEq, Eq)]
 pub enum Side {
-    Neither,
     List,
     Block,
 }
@@ -29,40 +28,40 @@ fn list_first(which: Which, list: Range, block: Range) -> bool
     ensures { result ≡ list_first which (plain list) (plain block) }
 {
     match which {
-        Which::First => list.base.lt(block.base),
-        Which::Last => block.base.lt(list.base),
+        Which::First => list.base < block.base,
+        Which::Last => block.base < list.base,
         Which::Largest => {
             let here = list.size();
             let there = block.size();
-            if there.lt(here) {
+            if there < here {
                 return true;
             }
-            if !there.same(here) {
+            if there != here {
                 return false;
             }
-            list.base.lt(block.base)
+            list.base < block.base
         }
     }
 }
 
-// The land whose range is taken of those that are not none.
-fn choose_side(which: Which, list: Range, block: Range) -> Side
+// The land whose range is taken of those that are not none, if there is one.
+fn choose_side(which: Which, list: Range, block: Range) -> Option<Side>
     requires { Ordered list block }
     ensures { result ≡ side_of which list block }
 {
     if list.base.is_zero() {
         if block.base.is_zero() {
-            return Side::Neither;
+            return None;
         }
-        return Side::Block;
+        return Some(Side::Block);
     }
     if block.base.is_zero() {
-        return Side::List;
+        return Some(Side::List);
     }
     if list_first(which, list, block) {
-        Side::List
+        Some(Side::List)
     } else {
-        Side::Block
+        Some(Side::Block)
     }
 }
 
@@ -148,18 +147,18 @@ impl Pair {
         ensures { (result ≡ found_of (found self words.old nodes.old which size.0 mode)) × (words.new ≡ (found self words.old nodes.old which size.0 mode).words.list) × (nodes.new ≡ (found self words.old nodes.old which size.0 mode).words.block) }
     {
         let block = self.block;
-        let SizeCheck::Good = block.arena().by_bit().check_find(which, size) else {
-            return none_found(self, 4);
+        let Ok(()) = block.arena().by_bit().check_find(which, size) else {
+            return none_found(self, Refusal::Request);
         };
         match choose_side(which, spot.here, entry.here) {
-            Side::Neither => none_found(self, 2),
-            Side::List => self.find_in_list(words, which, size, mode, spot),
-            Side::Block => self.find_in_block(nodes, which, size, mode, entry),
+            None => none_found(self, Refusal::NoneFound),
+            Some(Side::List) => self.find_in_list(words, which, size, mode, spot),
+            Some(Side::Block) => self.find_in_block(nodes, which, size, mode, entry),
         }
     }
 
     // The find that `which` names: the set-up, the size, the one look at both lands, and then 6, 4, 2 and the removal.
-    fn find(
+    pub fn find(
         self,
         words: &mut [u64],
         nodes: &mut [u64],
@@ -170,13 +169,8 @@ impl Pair {
         ensures { (result ≡ found_of (found self words.old nodes.old which size.0 mode)) × (words.new ≡ (found self words.old nodes.old which size.0 mode).words.list) × (nodes.new ≡ (found self words.old nodes.old which size.0 mode).words.block) }
     {
         match self.check(words, nodes, Aim::Find(which, size)) {
-            PairCheck::BadSetUp => none_found(self, 5),
-            PairCheck::Damaged => none_found(self, 6),
-            PairCheck::Good(s, e) => {
-                let spot = s;
-                let entry = e;
-                self.find_at(words, nodes, which, size, mode, spot, entry)
-            }
+            Ok((spot, entry)) => self.find_at(words, nodes, which, size, mode, spot, entry),
+            Err(refusal) => none_found(self, refusal),
         }
     }
 

@@ -1,17 +1,16 @@
 // Insert: the list flushed into the block land, then the range into the block land, and where it has no room into the list.
-ghost use Rattle.std.specs.Prelude.{◌≡◌};
+ghost use Rattle.std.specs.Prelude.{◌≡◌, Ok};
 ghost use Rattle.list_land.specs.inner.Parts.{reach_base};
 ghost use Rattle.block_words.specs.inner.Surveys as places;
 ghost use Rattle.flush.specs.Flush.{check_of};
-ghost use Rattle.flush.specs.declared.FlushCheck.TheVariants.{Good};
 ghost use Rattle.pair.specs.Calls.{changed, inserted};
 ghost use Rattle.pair.specs.inner.Parts.{Checked};
 ghost use Rattle.pair.specs.inner.Inserts.{flushed_counts, flushed_nodes, closed_by, Roomless, Open, enter_list, enter_words, entered, entered_words, entered_nodes, taken_in, Wanted, Bare, Preparable};
 
-use crate::{Changed, Pair, PairCheck, refused};
+use crate::{Changed, Pair, refused};
 use block_words::{Entry, seeks};
 use list_words::{Chain, Spot};
-use units::{Aim, Range, RangeCheck, Size};
+use units::{Aim, Range, Refusal, Size};
 
 // What an insert works on until it closes both handles: the chain of the list, the ranges and the bytes of the table.
 #[derive(Clone, Copy)]
@@ -38,7 +37,7 @@ pub struct Entered {
 impl Pair {
     // The list's ranges moved into the block land, until none is left or one has no room. No arena word changes.
     fn flushed(self, words: &[u64], nodes: &mut [u64]) -> Counts
-        requires { check_of self.list words.now self.block nodes.old ≡ Good }
+        requires { check_of self.list words.now self.block nodes.old ≡ Ok tt }
         ensures { (result ≡ flushed_counts self words.now nodes.old) × (nodes.new ≡ flushed_nodes self words.now nodes.old) }
     {
         let list = self.list;
@@ -151,7 +150,7 @@ impl Pair {
         ensures { ((result.counts ≡ flushed_counts self words.now nodes.old) × (nodes.new ≡ flushed_nodes self words.now nodes.old)) × places.FirstReach nodes.new result.counts.ranges range.base.0 result.place }
     {
         let counts = self.flushed(words, nodes);
-        if counts.chain.head.same(self.list.head) {
+        if counts.chain.head == self.list.head {
             return Prepared {
                 counts,
                 place: entry.number,
@@ -198,11 +197,11 @@ impl Pair {
         requires { Checked self words.old nodes.old (reach_base range) spot entry }
         ensures { (result ≡ changed (inserted self words.old nodes.old range)) × (words.new ≡ (inserted self words.old nodes.old range).words.list) × (nodes.new ≡ (inserted self words.old nodes.old range).words.block) }
     {
-        let RangeCheck::Good = self.block.arena().by_bit().check_range(range) else {
-            return refused(self, 4);
+        let Ok(()) = self.block.arena().by_bit().check_range(range) else {
+            return refused(self, Refusal::Request);
         };
         if self.taken(words, nodes, range, spot, entry) {
-            return refused(self, 1);
+            return refused(self, Refusal::Overlap);
         }
         self.insert_bare(words, nodes, range, spot, entry)
     }
@@ -214,13 +213,8 @@ impl Pair {
     {
         let base = range.base;
         match self.check(words, nodes, Aim::Reach(base)) {
-            PairCheck::BadSetUp => refused(self, 5),
-            PairCheck::Damaged => refused(self, 6),
-            PairCheck::Good(s, e) => {
-                let spot = s;
-                let entry = e;
-                self.insert_at(words, nodes, range, spot, entry)
-            }
+            Ok((spot, entry)) => self.insert_at(words, nodes, range, spot, entry),
+            Err(refusal) => refused(self, refusal),
         }
     }
 }

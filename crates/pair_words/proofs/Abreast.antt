@@ -6,6 +6,7 @@ use mathlib.Core.Path.{◌≡◌, sym, ap, subst, ◌∙◌}
 use native.Mathlib.Omega.{arith}
 use lib.Dec.{eqb}
 use lib.ListN.{length}
+use Rattle.std.specs.Prelude.{Option, Some, None, Result, Ok}
 use Rattle.units.specs.Words.{range_of}
 use Rattle.units.specs.declared.Addr.{Addr}
 use Rattle.units.specs.declared.Range as units
@@ -14,7 +15,8 @@ use Rattle.model.specs.Marks.{Range, rng, struct}
 use Rattle.model.specs.inner.Lists.{Apart}
 use Rattle.list_words.specs.Words.{Walk, clean, walk_from, range_at}
 use Rattle.list_words.specs.inner.Surveys.{Ready, walk_in, walk_of, start_at, onward, Along}
-use Rattle.list_words.specs.declared.Met.{Met}
+use Rattle.list_words.specs.declared.Descriptor.{Descriptor}
+use Rattle.list_words.specs.declared.Fault.{Fault}
 use Rattle.list_words.specs.declared.cursor.Cursor.{Cursor}
 use Rattle.list_words.proofs.Going.{along-done, met-here}
 use Rattle.list_words.proofs.Meeting.{walk-mets}
@@ -23,7 +25,6 @@ use Rattle.block_words.specs.inner.Tallies.{behind}
 use Rattle.block_words.specs.inner.Surveys.{Rising}
 use Rattle.pair_model.specs.PairLayouts.{meet}
 use Rattle.pair_words.specs.inner.Besides.{beside_of, Abreast}
-use Rattle.pair_words.specs.declared.walks.Beside.{Beside}
 use Rattle.pair_words.proofs.Besides.{Kept, Keeps, placed-keeps, Says, placed-says}
 
 -- what a walk that ends well meets from a place on stands apart
@@ -60,16 +61,16 @@ module _ (a : Arena) (ws : List ℕ) (ready : Ready a (length ws)) (vs : List �
           sym (s.same d.clean_end) ∙ ap (λ (rs : List Range). meet rs (behind vs n i)) d.none_left
 
       -- a range comes
-      module _ (f : not z ≡ true) (m : Met) (em : m ≡ range_at a.base.0 a.limit.0 a.align.0 ws c.low.0 c.at.0)
-          (e x : Addr) (fm : m ≡ Met.Found e x) where
+      module _ (f : not z ≡ true) (m : Result Descriptor Fault) (em : m ≡ range_at a.base.0 a.limit.0 a.align.0 ws c.low.0 c.at.0)
+          (d : Descriptor) (fm : m ≡ Ok d) where
         abbrev r : Range
-        r = rng c.at.0 e.0
+        r = rng c.at.0 d.limit.0
 
         abbrev rest : List Range
-        rest = (walk_in a ws (e.0 + 1) x.0).met
+        rest = (walk_in a ws (d.limit.0 + 1) d.next.0).met
 
         met : (walk_in a ws c.low.0 c.at.0).met ≡ r ∷ rest
-        met = met-here a ws ready head c l z ez f m em e x fm
+        met = met-here a ws ready head c l z ez f m em d fm
 
         all-pairs : i + (n - i) ≡ n
         all-pairs = omega (arith, s.upto)
@@ -79,7 +80,7 @@ module _ (a : Arena) (ws : List ℕ) (ready : Ready a (length ws)) (vs : List �
           stood : Apart c.low.0 a.limit.0 (r ∷ rest)
           stood = subst (Apart c.low.0 a.limit.0) met (walk-apart a ws c.low.0 c.at.0 (l.ending ∙ w))
 
-          abbrev Tells : Beside → Type 0
+          abbrev Tells : Option ℕ → Type 0
           Tells = Says vs n s.hi s.fits r rest a.limit.0 stood.1 stood.2 stood.3 i
 
           tells : Tells (beside_of (struct r) i (behind vs n i))
@@ -88,15 +89,15 @@ module _ (a : Arena) (ws : List ℕ) (ready : Ready a (length ws)) (vs : List �
           both : meet (r ∷ rest) (behind vs n i) ≡ overlap
           both = sym (ap (λ (rs : List Range). meet rs (behind vs n i)) met) ∙ s.same w
 
-        module _ (y : units.Range) (ey : y ≡ range_of c.at.0 e.0) (b : Beside) (eb : b ≡ beside_of y i (behind vs n i)) where
+        module _ (y : units.Range) (ey : y ≡ range_of c.at.0 d.limit.0) (b : Option ℕ) (eb : b ≡ beside_of y i (behind vs n i)) where
           placed : b ≡ beside_of (struct r) i (behind vs n i)
           placed = eb ∙ ap (λ (v : units.Range). beside_of v i (behind vs n i)) ey
 
-          pub abreast-overlaps : b ≡ Beside.Overlaps → whole.end ≡ clean → overlap ≡ true
+          pub abreast-overlaps : b ≡ None → whole.end ≡ clean → overlap ≡ true
           abreast-overlaps g w = sym (both w) ∙ subst (Tells w) (sym placed ∙ g) (tells w)
 
-          module _ (j : ℕ) (g : b ≡ Beside.At j) where
-            there : beside_of (struct r) i (behind vs n i) ≡ Beside.At j
+          module _ (j : ℕ) (g : b ≡ Some j) where
+            there : beside_of (struct r) i (behind vs n i) ≡ Some j
             there = sym placed ∙ g
 
             stays : Kept vs n s.hi i j
@@ -104,7 +105,7 @@ module _ (a : Arena) (ws : List ℕ) (ready : Ready a (length ws)) (vs : List �
                 subst (Keeps vs n s.hi s.fits (struct r) i) there
                 (placed-keeps vs n s.hi s.fits (struct r) (n - i) i s.lo all-pairs s.apart)
 
-            pub abreast-next : (c' : Cursor) → c' ≡ onward c e.0 x → Abreast a ws head vs n c' j
+            pub abreast-next : (c' : Cursor) → c' ≡ onward c d.limit.0 d.next → Abreast a ws head vs n c' j
             abreast-next c' ec =
                 rw ec
                 (record {

@@ -21,7 +21,7 @@ use units::{Addr, Arena, Range, Size};
 fn higher(x: Addr, y: Addr) -> Addr
     ensures { result.0 ≡ cond (leb x.0 y.0) y.0 x.0 }
 {
-    if x.le(y) {
+    if x <= y {
         return y;
     }
     x
@@ -30,7 +30,7 @@ fn higher(x: Addr, y: Addr) -> Addr
 fn lower(x: Addr, y: Addr) -> Addr
     ensures { result.0 ≡ cond (leb x.0 y.0) x.0 y.0 }
 {
-    if x.le(y) {
+    if x <= y {
         return x;
     }
     y
@@ -42,7 +42,7 @@ fn common(y: Range, here: Range) -> Size
 {
     let from = higher(y.base, here.base);
     let upto = lower(y.limit, here.limit);
-    if upto.le(from) {
+    if upto <= from {
         return Size::new(0);
     }
     from.size_to(upto)
@@ -68,12 +68,9 @@ pub fn table_share(nodes: &[u64], count: u64, range: Range) -> Size
     requires { Tabled nodes.now count }
     ensures { result.0 ≡ inside range.base.0 range.limit.0 (pairs nodes.now count) }
 {
-    let n = count as usize;
-    let mut i: usize = 0;
     let mut sum = Size::new(0);
-    while i < n {
+    for i in 0..count as usize {
         let here = block_words::pair_at(nodes, i);
-        i += 1;
         sum = sum.plus(common(range, here));
     }
     sum
@@ -93,7 +90,7 @@ pub fn spot_left(arena: Arena, words: &[u64], head: Addr, base: Addr, spot: Spot
         };
     }
     let first = list_words::descriptor_at(arena, words, head);
-    if base.le(first.limit) {
+    if base <= first.limit {
         let here = Range::new(head, first.limit);
         let next = first.next;
         return Spot { prev, here, next };

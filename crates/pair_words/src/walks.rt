@@ -10,45 +10,30 @@ ghost use Rattle.block_words.specs.inner.Surveys.{Rising};
 ghost use Rattle.pair_words.specs.inner.Besides.{beside_of, Abreast, SeeksBeside, sound_beside, survey_beside};
 
 use list_words::cursor::Cursor;
-use list_words::{Chain, Met, Spot, Verdict};
-use units::{Addr, Aim, Arena, Goal, Range, Size, Soundness};
+use list_words::{Chain, Descriptor, Spot};
+use units::{Addr, Aim, Arena, Goal, Range, Refusal, Size};
 
-// Where a range stands beside a table: it overlaps a pair; or before the first pair that ends above its base, or behind all.
-#[derive(Clone, Copy)]
-pub enum Beside {
-    Overlaps,
-    At(usize),
-}
-
-// Where a range stands, of the pairs from number `from` on.
-fn place_beside(nodes: &[u64], n: usize, from: usize, here: Range) -> Beside
+// Where a range stands beside a table, of the pairs from number `from` on: before the first pair that ends above its base, or
+// behind all; nowhere if it overlaps a pair.
+fn place_beside(nodes: &[u64], n: usize, from: usize, here: Range) -> Option<usize>
     requires n_bound { n ≤ capacity nodes.now }
     requires from_le_n { from ≤ n }
     ensures { result ≡ beside_of here from (behind nodes.now n from) }
 {
-    let mut i = from;
-    while i < n {
+    for i in from..n {
         let pair = block_words::pair_at(nodes, i);
-        if !pair.limit.le(here.base) {
-            if here.limit.le(pair.base) {
-                return Beside::At(i);
+        if here.base < pair.limit {
+            if here.limit <= pair.base {
+                return Some(i);
             }
-            return Beside::Overlaps;
+            return None;
         }
-        i += 1;
     }
-    Beside::At(i)
+    Some(n)
 }
 
-// A fault, or lands that overlap; or the first range that fits (none, behind the last range, where there is none), the cursor
-// behind it, and the number of the pair that stands there.
-#[derive(Clone, Copy)]
-pub enum SoughtBeside {
-    Broken,
-    At(Spot, Cursor, usize),
-}
-
-// The walk from head up to the first range that fits.
+// The walk from head up to the first range that fits (none, behind the last range, where there is none), with the cursor behind it,
+// and the number of the pair that stands there. Refused are a fault, and lands that overlap.
 #[inline(always)]
 fn seek(
     arena: Arena,
@@ -57,7 +42,7 @@ fn seek(
     nodes: &[u64],
     n: usize,
     goal: Goal,
-) -> SoughtBeside
+) -> Result<(Spot, Cursor, usize), Refusal>
     requires ready { Ready arena (length words.now) }
     requires rising { Rising nodes.now n }
     ensures { SeeksBeside arena words.now head.0 nodes.now n (sought goal none_range) result }
@@ -66,25 +51,30 @@ fn seek(
     let mut cur = Cursor::start(arena, head);
     let mut i: usize = 0;
     while !cur.at.is_zero() {
-        let Met::Found(end, next) = list_words::range_at(arena, words, cur.low, cur.at) else {
-            return SoughtBeside::Broken;
-        };
-        let here = Range::new(cur.at, end);
-        let Beside::At(j) = place_beside(nodes, n, i, here) else {
-            return SoughtBeside::Broken;
+        let Descriptor { limit, next } = list_words::range_at(arena, words, cur.low, cur.at)?;
+        let here = Range::new(cur.at, limit);
+        let Some(j) = place_beside(nodes, n, i, here) else {
+            return Err(Refusal::Damaged);
         };
         i = j;
-        cur = cur.on(end, next);
+        cur = cur.on(limit, next);
         if goal.fits(here) {
-            return SoughtBeside::At(Spot { prev, here, next }, cur, i);
+            return Ok((Spot { prev, here, next }, cur, i));
         }
         prev = here;
     }
-    SoughtBeside::At(Spot::behind(prev), cur, i)
+    Ok((Spot::behind(prev), cur, i))
 }
 
 // The walk of an aim that keeps the first range that it takes, up to that range. No limit reaches 2^64 - 1.
-fn first(arena: Arena, words: &[u64], head: Addr, nodes: &[u64], n: usize, aim: Aim) -> SoughtBeside
+fn first(
+    arena: Arena,
+    words: &[u64],
+    head: Addr,
+    nodes: &[u64],
+    n: usize,
+    aim: Aim,
+) -> Result<(Spot, Cursor, usize), Refusal>
     requires ready { Ready arena (length words.now) }
     requires rising { Rising nodes.now n }
     requires aim_value { keeps_first aim ≡ true }
@@ -113,7 +103,7 @@ fn sound_on(
     nodes: &[u64],
     n: usize,
     from: usize,
-) -> Soundness
+) -> Result<(), Refusal>
     requires ready { Ready arena (length words.now) }
     requires along { Along arena words.now chain.head.0 cursor }
     requires abreast { Abreast arena words.now chain.head.0 nodes.now n cursor from }
@@ -122,20 +112,25 @@ fn sound_on(
     let mut cur = cursor;
     let mut i = from;
     while !cur.at.is_zero() {
-        let Met::Found(end, next) = list_words::range_at(arena, words, cur.low, cur.at) else {
-            return Soundness::Damaged;
-        };
-        let Beside::At(j) = place_beside(nodes, n, i, Range::new(cur.at, end)) else {
-            return Soundness::Damaged;
+        let Descriptor { limit, next } = list_words::range_at(arena, words, cur.low, cur.at)?;
+        let Some(j) = place_beside(nodes, n, i, Range::new(cur.at, limit)) else {
+            return Err(Refusal::Damaged);
         };
         i = j;
-        cur = cur.on(end, next);
+        cur = cur.on(limit, next);
     }
     cur.counts(chain)
 }
 
 // The walk of an aim that weighs each range against what it has kept.
-fn weigh(arena: Arena, words: &[u64], chain: Chain, nodes: &[u64], n: usize, aim: Aim) -> Verdict
+fn weigh(
+    arena: Arena,
+    words: &[u64],
+    chain: Chain,
+    nodes: &[u64],
+    n: usize,
+    aim: Aim,
+) -> Result<Spot, Refusal>
     requires ready { Ready arena (length words.now) }
     requires rising { Rising nodes.now n }
     ensures { result ≡ survey_beside arena words.now chain nodes.now n aim }
@@ -145,24 +140,20 @@ fn weigh(arena: Arena, words: &[u64], chain: Chain, nodes: &[u64], n: usize, aim
     let mut cur = Cursor::start(arena, chain.head);
     let mut i: usize = 0;
     while !cur.at.is_zero() {
-        let Met::Found(end, next) = list_words::range_at(arena, words, cur.low, cur.at) else {
-            return Verdict::Damaged;
-        };
-        let here = Range::new(cur.at, end);
-        let Beside::At(j) = place_beside(nodes, n, i, here) else {
-            return Verdict::Damaged;
+        let Descriptor { limit, next } = list_words::range_at(arena, words, cur.low, cur.at)?;
+        let here = Range::new(cur.at, limit);
+        let Some(j) = place_beside(nodes, n, i, here) else {
+            return Err(Refusal::Damaged);
         };
         if aim.takes(kept.here, here) {
             kept = Spot { prev, here, next };
         }
         prev = here;
-        cur = cur.on(end, next);
+        cur = cur.on(limit, next);
         i = j;
     }
-    let Soundness::Sound = cur.counts(chain) else {
-        return Verdict::Damaged;
-    };
-    Verdict::Sound(kept.at_end(prev))
+    cur.counts(chain)?;
+    Ok(kept.at_end(prev))
 }
 
 // The one walk over the list of a pair: its ranges are judged and counted, each is compared with the pairs that stand around
@@ -174,7 +165,7 @@ pub fn survey(
     nodes: &[u64],
     n: usize,
     aim: Aim,
-) -> Verdict
+) -> Result<Spot, Refusal>
     requires ready { Ready arena (length words.now) }
     requires rising { Rising nodes.now n }
     ensures { result ≡ survey_beside arena words.now chain nodes.now n aim }
@@ -182,14 +173,7 @@ pub fn survey(
     if !aim.stays() {
         return weigh(arena, words, chain, nodes, n, aim);
     }
-    let SoughtBeside::At(s, c, i) = first(arena, words, chain.head, nodes, n, aim) else {
-        return Verdict::Damaged;
-    };
-    let spot = s;
-    let cur = c;
-    let from = i;
-    let Soundness::Sound = sound_on(arena, words, cur, chain, nodes, n, from) else {
-        return Verdict::Damaged;
-    };
-    Verdict::Sound(spot)
+    let (spot, cur, from) = first(arena, words, chain.head, nodes, n, aim)?;
+    sound_on(arena, words, cur, chain, nodes, n, from)?;
+    Ok(spot)
 }

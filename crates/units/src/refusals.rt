@@ -4,7 +4,8 @@ ghost use Rattle.units.specs.Rules.{refusal_number};
 
 // Overlap: some byte of an insert is free already, or some byte of a delete is not. NoneFound: no range is long enough, or none
 // begins so high. Full: no room for one more range. Request: the range or the size breaks the rules. SetUp: the fixed handle
-// fields or the lent lengths break the arena rules. Damaged: the list or the table is not sound.
+// fields or the lent lengths break the arena rules. Damaged: the list or the table is not sound. InBoth: every byte of a delete is
+// free, but not in one land of a pair.
 #[derive(Clone, Copy, Debug, PartialEq, Eq)]
 pub enum Refusal {
     Overlap,
@@ -13,6 +14,7 @@ pub enum Refusal {
     Request,
     SetUp,
     Damaged,
+    InBoth,
 }
 
 impl Refusal {
@@ -27,6 +29,7 @@ impl Refusal {
             Refusal::Request => 4,
             Refusal::SetUp => 5,
             Refusal::Damaged => 6,
+            Refusal::InBoth => 7,
         }
     }
 }

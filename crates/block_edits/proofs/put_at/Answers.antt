@@ -10,10 +10,6 @@ pub fit_in-requires-clause-joining : goal.fit_in-requires-clause-joining
 fit_in-requires-clause-joining c =
     (put-ready _ _ c.args.range c.requires.sorted c.requires.base_lt_limit _ c.requires.first_reach _ c.fit_at-fit.ensures c.if-fit.false).1
 
-pub returns-in_default : goal.returns-in_default
-returns-in_default c =
-    put-done _ _ c.args.range c.requires.sorted c.requires.base_lt_limit _ c.requires.first_reach _ c.fit_at-fit.ensures c.if-fit.false _ _ c.fit_in.ensures _ c.in_default.is
-
 pub returns : goal.returns
 returns c =
-    put-done _ _ c.args.range c.requires.sorted c.requires.base_lt_limit _ c.requires.first_reach _ c.fit_at-fit.ensures c.if-fit.false _ _ c.fit_in.ensures _ c.in-Done.is
+    put-done _ _ c.args.range c.requires.sorted c.requires.base_lt_limit _ c.requires.first_reach _ c.fit_at-fit.ensures c.if-fit.false _ _ c.fit_in.ensures

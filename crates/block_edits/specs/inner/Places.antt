@@ -1,15 +1,16 @@
 -- The place of a range in a sorted table: contracts of inner functions. Assumes nothing.
-use Rattle.std.specs.Prelude.{ℕ, ◌+◌, ◌-◌, ◌*◌, ◌≤◌, ◌<◌, Bool, false, cond, List, [], ◌∷◌, ◌⊎◌, ◌≡◌, leb, ltb, eqb, get_or}
+use Rattle.std.specs.Prelude.{ℕ, ◌+◌, ◌-◌, ◌*◌, ◌≤◌, ◌<◌, Bool, false, cond, List, [], ◌∷◌, ◌⊎◌, ◌≡◌, leb, ltb, eqb, get_or, Result, Ok, Err}
 use Rattle.units.specs.Words.{range_of}
 use Rattle.units.specs.inner.Parts.{one}
 use Rattle.units.specs.declared.Range as units
+use Rattle.units.specs.declared.refusals.Refusal.{Refusal}
 use Rattle.model.specs.Marks.{Range}
 use Rattle.model.specs.inner.Lists.{piece, plain}
 use Rattle.block_words.specs.Words.{capacity, pairs, fill}
 use Rattle.block_shifts.specs.inner.Shifts.{spliced}
-use Rattle.block_edits.specs.inner.Edits.{Sorted}
+use Rattle.block_edits.specs.inner.Edits.{Sorted, done_by}
 use Rattle.block_edits.specs.declared.cut.Left.{Left}
-use Rattle.block_edits.specs.declared.TableJoined.{TableJoined}
+use Rattle.block_edits.specs.declared.TableEdited.{TableEdited}
 use Rattle.block_edits.specs.declared.join.Fit.{Fit}
 
 abbrev pub fit : ℕ → ℕ → ℕ → Bool → Fit
@@ -37,8 +38,8 @@ pub record Joining (n i k : ℕ) : Type 0 where
   pub inside : i + k ≤ n
 
 -- What comes of a range as it fits at pair i of n: there is no room, or the range and the number of ranges.
-abbrev pub fitted : List ℕ → ℕ → Fit → TableJoined
-fitted ws n f = cond (leb (n + 1 - f.joins) (capacity ws)) (TableJoined.Done f.joined (n + 1 - f.joins)) TableJoined.Full
+abbrev pub fitted : List ℕ → ℕ → Fit → Result TableEdited Refusal
+fitted ws n f = cond (leb (n + 1 - f.joins) (capacity ws)) (Ok (done_by f.joined (n + 1 - f.joins))) (Err Refusal.Full)
 
 abbrev pub fitted_words : List ℕ → ℕ → ℕ → Fit → List ℕ
 fitted_words ws n i f =

@@ -1,9 +1,11 @@
 -- What an aim keeps of a table, and what is found of all of it: contracts of inner functions. Assumes nothing.
-use Rattle.std.specs.Prelude.{ℕ, ◌+◌, ◌*◌, ◌/◌, ◌<◌, ◌≤◌, Bool, cond, ◌&&◌, List, [], ◌∷◌, length, drop, nat_le, nat_lt, slice_index}
+use Rattle.std.specs.Prelude.{ℕ, ◌+◌, ◌*◌, ◌/◌, ◌<◌, ◌≤◌, Bool, cond, ◌&&◌, List, [], ◌∷◌, length, drop, nat_le, nat_lt, slice_index, Result, Ok, Err}
+use Rattle.units.specs.Rules.{refusal_number}
 use Rattle.units.specs.inner.Aims.{none_range, takes}
 use Rattle.units.specs.declared.Range.{Range}
 use Rattle.units.specs.declared.Size.{Size}
 use Rattle.units.specs.declared.aims.Aim.{Aim}
+use Rattle.units.specs.declared.refusals.Refusal.{Refusal}
 use Rattle.units.specs.declared.rules.Arena.{Arena}
 use Rattle.model.specs.Marks as marks
 use Rattle.model.specs.Marks.{struct}
@@ -11,7 +13,6 @@ use Rattle.model.specs.inner.Lists.{Apart}
 use Rattle.block_words.specs.Words.{capacity, pairs, all_zero, sound_table}
 use Rattle.block_words.specs.inner.Tallies.{pair_at}
 use Rattle.block_words.specs.declared.Entry.{Entry}
-use Rattle.block_words.specs.declared.Verdict.{Verdict}
 
 abbrev pub entry : ℕ → Range → Entry
 entry i r = record { number = i; here = r }
@@ -54,11 +55,11 @@ abbrev pub tidy : List ℕ → ℕ → Bool
 tidy ws n = nat_le n (capacity ws) && all_zero (drop (2 * n) ws)
 
 -- Document 01's number of what is found of the whole table: 6, or 0.
-abbrev pub verdict_number : Verdict → ℕ
-verdict_number Verdict.Damaged = 6
-verdict_number (Verdict.Sound e) = 0
+abbrev pub verdict_number : Result Entry Refusal → ℕ
+verdict_number (Ok e) = 0
+verdict_number (Err r) = refusal_number r
 
 -- What is found of the whole table, where the handle has n ranges and this many bytes.
-unfoldable pub survey_of : Arena → List ℕ → ℕ → Size → Aim → Verdict
+unfoldable pub survey_of : Arena → List ℕ → ℕ → Size → Aim → Result Entry Refusal
 survey_of a ws n bytes aim =
-    cond (sound_table a.base.0 a.limit.0 a.align.0 ws n bytes.0) (Verdict.Sound (entry_of aim (pairs ws n))) Verdict.Damaged
+    cond (sound_table a.base.0 a.limit.0 a.align.0 ws n bytes.0) (Ok (entry_of aim (pairs ws n))) (Err Refusal.Damaged)

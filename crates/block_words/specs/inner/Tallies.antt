@@ -1,11 +1,10 @@
 -- The pairs of a table by number, and what a sweep over them tallies: contracts of inner functions. Assumes nothing.
-use Rattle.std.specs.Prelude.{◌≡◌, ℕ, ◌+◌, ◌-◌, ◌*◌, ◌%◌, Bool, not, ◌&&◌, List, [], ◌∷◌, drop, ◌==◌, bit_and, bit_or, nat_le, slice_index}
+use Rattle.std.specs.Prelude.{◌≡◌, ℕ, ◌+◌, ◌-◌, ◌*◌, ◌%◌, Bool, not, ◌&&◌, List, [], ◌∷◌, drop, ◌==◌, bit_and, bit_or, nat_le, slice_index, Ok}
 use Rattle.units.specs.Rules.{multiple, arena_check}
 use Rattle.units.specs.Words.{range_of}
 use Rattle.units.specs.declared.Range.{Range}
 use Rattle.units.specs.declared.Size.{Size}
 use Rattle.units.specs.declared.rules.Arena.{Arena}
-use Rattle.units.specs.declared.rules.ArenaCheck.{ArenaCheck}
 use Rattle.model.specs.Marks as marks
 use Rattle.model.specs.Marks.{total}
 use Rattle.block_words.specs.Words.{pairs, canonical}
@@ -20,7 +19,7 @@ behind ws n i = pairs (drop (2 * i) ws) (n - i)
 
 -- The arena is good.
 abbrev pub Ready : Arena → Type 0
-Ready a = arena_check a.base.0 a.limit.0 a.align.0 ≡ ArenaCheck.Good
+Ready a = arena_check a.base.0 a.limit.0 a.align.0 ≡ Ok tt
 
 -- x - y, modulo 2^64; and whether a word has its top bit.
 abbrev pub below : ℕ → ℕ → ℕ

@@ -5,16 +5,19 @@ use mathlib.Core.List.{List}
 use mathlib.Core.Path.{◌≡◌, refl}
 use lib.ListN.{length}
 use borrow.Author.Tests.{not-true, not-false}
+use Rattle.std.specs.Prelude.{Result, Err}
+use Rattle.units.specs.Rules.{refusal_number}
 use Rattle.units.specs.inner.Aims.{none_range}
 use Rattle.units.specs.declared.Range as units
 use Rattle.units.specs.declared.aims.Aim.{Aim}
+use Rattle.units.specs.declared.refusals.Refusal.{Refusal}
 use Rattle.units.proofs.Tests.{by}
 use Rattle.model.specs.Calls.{Arena, Call, insert, delete, refused, accepted, good_range_in}
 use Rattle.model.specs.inner.Lists.{overlaps, holds, holder, insert_in, delete_from}
 use Rattle.model.specs.Marks.{Range, rng, struct}
 use Rattle.model.specs.inner.Steps.{list_ops, room_for, step}
 use Rattle.model.proofs.lands.Land.{Land}
-use Rattle.model.proofs.lands.Looking.{Kept, Changes, saw-5, saw-6, refused-change, step-refused, step-done, done-change}
+use Rattle.model.proofs.lands.Looking.{Kept, Changes, saw-err, refused-change, step-refused, step-done, done-change}
 use Rattle.model.proofs.Requests.{range-refused}
 
 -- A call that edits a list: it is refused by 4, by 1 where `bad` (some byte is free already, or is not free), by 3 where there is
@@ -60,14 +63,11 @@ module _ (a : Arena) (rs : List Range) (b l : ℕ) where
     is-0 = λ g o f. rw (g, not-false (holds b l rs) o, f);
   }
 
-module _ {H L S C F : Type 0} (I : Land H L S C F) (h : H) (ws : List ℕ) (aim : Aim) where
+module _ {H S C F : Type 0} (I : Land H S C F) (h : H) (ws : List ℕ) (aim : Aim) where
   -- before the request is looked at
-  module _ (v : L) (e : v ≡ I.look h ws aim) (c : Call) where
-    pub edit-5 : v ≡ I.bad → (w : C) → w ≡ I.change h 5 none_range → Changes I w ws (I.does c h ws)
-    edit-5 f w k = refused-change I h ws c 5 (saw-5 I h ws aim v e c f) w k ws refl
-
-    pub edit-6 : v ≡ I.damaged → (w : C) → w ≡ I.change h 6 none_range → Changes I w ws (I.does c h ws)
-    edit-6 f w k = refused-change I h ws c 6 (saw-6 I h ws aim v e c f) w k ws refl
+  module _ (v : Result S Refusal) (e : v ≡ I.look h ws aim) (c : Call) where
+    pub edit-err : (r : Refusal) → v ≡ Err r → (w : C) → w ≡ I.change h (refusal_number r) none_range → Changes I w ws (I.does c h ws)
+    edit-err r f w k = refused-change I h ws c (refusal_number r) (saw-err I h ws aim v e c r f) w k ws refl
 
   module _ (s : S) (k : Kept I h ws aim s) (c : Call) (E : Edits (I.layout.arena h ws) (I.ranges h ws) c) where
     pub edit-4 : E.good ≡ false → (w : C) → w ≡ I.change h 4 none_range → Changes I w ws (I.does c h ws)

@@ -8,7 +8,7 @@ use native.Mathlib.Omega.{arith}
 use lib.Dec.{eqb}
 use Rattle.std.specs.Prelude.{Result, Ok, Err}
 use Rattle.units.specs.inner.Aims.{none_range, find_aim, aim_of}
-use Rattle.units.specs.Rules.{find_check, find_size}
+use Rattle.units.specs.Rules.{find_check, find_size, refusal_number}
 use Rattle.units.specs.inner.Parts.{Checked, set_up_of}
 use Rattle.units.specs.declared.Mode.{Mode}
 use Rattle.units.specs.declared.Range as units
@@ -32,11 +32,11 @@ use Rattle.model.proofs.Chosen.{Choice, none-chosen, some-chosen}
 use Rattle.model.proofs.Finding.{find_none, find-takes}
 use Rattle.model.proofs.lands.Land.{Land}
 use Rattle.model.proofs.lands.Ways.{above}
-use Rattle.model.proofs.lands.Looking.{handle-back, Kept, Finds, bad-is-5, damaged-is-6, saw-5, saw-6, refused-find, fine, is-kept, mem-above, step-refused, done-find}
+use Rattle.model.proofs.lands.Looking.{handle-back, Kept, Finds, bad-is-5, damaged-is-6, saw-err, refused-find, fine, is-kept, mem-above, step-refused, done-find}
 use Rattle.model.proofs.Parts.{PartOf, mem-stands, part-takes}
 use Rattle.model.proofs.Requests.{find-size-rules, size-refused}
 
-module _ {H L S C F : Type 0} (I : Land H L S C F) (h : H) (ws : List ℕ) where
+module _ {H S C F : Type 0} (I : Land H S C F) (h : H) (ws : List ℕ) where
   -- the aim of a find of a good size
   abbrev pub find-aim : Which → Size → Aim
   find-aim w n = Aim.Find w (record { 0 = find_size_in (I.layout.arena h ws) n.0 })
@@ -54,12 +54,9 @@ module _ {H L S C F : Type 0} (I : Land H L S C F) (h : H) (ws : List ℕ) where
     find-6 g s v k = refused-find I h ws c 6 (damaged-is-6 I h ws c g s) v k ws refl
 
   -- 5 and 6, from a look
-  module _ (aim : Aim) (v : L) (e : v ≡ I.look h ws aim) (c : Call) where
-    pub looked-5 : v ≡ I.bad → (r : F) → r ≡ I.find-made h 5 none_range none_range → Finds I r ws (I.does c h ws)
-    looked-5 f r k = refused-find I h ws c 5 (saw-5 I h ws aim v e c f) r k ws refl
-
-    pub looked-6 : v ≡ I.damaged → (r : F) → r ≡ I.find-made h 6 none_range none_range → Finds I r ws (I.does c h ws)
-    looked-6 f r k = refused-find I h ws c 6 (saw-6 I h ws aim v e c f) r k ws refl
+  module _ (aim : Aim) (v : Result S Refusal) (e : v ≡ I.look h ws aim) (c : Call) where
+    pub looked-err : (x : Refusal) → v ≡ Err x → (r : F) → r ≡ I.find-made h (refusal_number x) none_range none_range → Finds I r ws (I.does c h ws)
+    looked-err x f r k = refused-find I h ws c (refusal_number x) (saw-err I h ws aim v e c x f) r k ws refl
 
   -- the size that the code works with is the one that the definition names
   size_is : (n : Size) (a : Arena) → a ≡ I.arena-in h → (m : Size) → m.0 ≡ find_size a.align.0 n.0 → m.0 ≡ find_size_in (I.layout.arena h ws) n.0

@@ -1,10 +1,10 @@
 -- A land, as the laws on its answers take it: what a land has, and what is to be shown of it. Assumes nothing.
 use Prim.Native.Nat.{ℕ, ◌<◌}
-use mathlib.Core.Bool.{Bool, true, cond, ◌&&◌}
+use mathlib.Core.Bool.{Bool, true, ◌&&◌}
 use mathlib.Core.List.{List}
 use mathlib.Core.Option.{none}
 use mathlib.Core.Path.{◌≡◌}
-use Rattle.std.specs.Prelude.{Result, Ok, Err}
+use Rattle.std.specs.Prelude.{Result}
 use Rattle.units.specs.LowWater.{sound_low}
 use Rattle.units.specs.Rules.{arena_check, good_arena}
 use Rattle.units.specs.declared.Addr.{Addr}
@@ -12,6 +12,7 @@ use Rattle.units.specs.declared.Range as units
 use Rattle.units.specs.declared.Size.{Size}
 use Rattle.units.specs.declared.aims.Aim.{Aim}
 use Rattle.units.specs.declared.rules.Arena as units-arena
+use Rattle.units.specs.declared.refusals.Refusal.{Refusal}
 use Rattle.units.specs.declared.rules.ArenaError.{ArenaError}
 use Rattle.model.specs.Calls.{Call, Outcome}
 use Rattle.model.specs.inner.Laws.{LandLaws}
@@ -19,6 +20,7 @@ use Rattle.model.specs.Lands.{LandLayout, land_call}
 use Rattle.model.specs.Layouts.{reading, Done}
 use Rattle.model.specs.inner.Lists.{Apart}
 use Rattle.model.specs.Marks.{Range}
+use Rattle.model.specs.inner.Looks.{look_of}
 use Rattle.model.specs.inner.Picks.{here_of}
 use Rattle.model.proofs.Aiming.{pick-by}
 use Rattle.model.proofs.Checks.{arena-struct}
@@ -27,8 +29,8 @@ use Rattle.model.proofs.Checks.{arena-struct}
 abbrev pub check-of : units-arena.Arena → Result (Unit {0}) ArenaError
 check-of a = arena_check a.base.0 a.limit.0 a.align.0
 
--- Handles H, what a look answers L, what it keeps S, the results of a call C and of a find F.
-pub record Land (H L S C F : Type 0) : Type 1 where
+-- Handles H, what a look keeps S, the results of a call C and of a find F.
+pub record Land (H S C F : Type 0) : Type 1 where
   pub layout : LandLayout H
   -- whether the memory is lent as it has to be, and the set-up
   pub lent : H → List ℕ → Bool
@@ -40,13 +42,8 @@ pub record Land (H L S C F : Type 0) : Type 1 where
   pub ranges : H → List ℕ → List Range
   -- the arena of a handle as the code has it
   pub arena-in : H → units-arena.Arena
-  -- the three answers of a look, and 5, 6 or 0 for each
-  pub bad : L
-  pub damaged : L
-  pub whole : S → L
-  pub number : L → ℕ
   -- a look at what a call asks for, and what is looked for
-  pub look : H → List ℕ → Aim → L
+  pub look : H → List ℕ → Aim → Result S Refusal
   pub aimed : H → Aim → Aim
   -- what an aim keeps of a list, and the range of it
   pub keep : Aim → List Range → S
@@ -63,13 +60,8 @@ pub record Land (H L S C F : Type 0) : Type 1 where
   pub sound-is : (h : H) (ws : List ℕ) → sound h ws ≡ judged h ws && sound_low (layout.noted h) (bytes h).0
   pub reads : (h : H) (ws : List ℕ) → layout.read h ws ≡ reading (set-up h ws) (sound h ws) (ranges h ws)
   pub arena-is : (h : H) (ws : List ℕ) → arena-in h ≡ arena-struct (layout.arena h ws)
-  -- the answers of a look are apart
-  pub number-bad : number bad ≡ 5
-  pub number-damaged : number damaged ≡ 6
-  pub number-whole : (s : S) → number (whole s) ≡ 0
-  pub same : (s t : S) → whole s ≡ whole t → s ≡ t
   pub looks : (h : H) (ws : List ℕ) (aim : Aim) →
-      look h ws aim ≡ cond (set-up h ws) (cond (sound h ws) (whole (keep (aimed h aim) (ranges h ws))) damaged) bad
+      look h ws aim ≡ look_of (set-up h ws) (sound h ws) (keep (aimed h aim) (ranges h ws))
   pub aims-from : (h : H) (x : Addr) → aimed h (Aim.From x) ≡ Aim.From x
   pub keeps : (aim : Aim) (lo hi : ℕ) (rs : List Range) → 0 < lo → Apart lo hi rs → here (keep aim rs) ≡ here_of (pick-by aim none rs)
   -- words that are read are those that close what is read

@@ -1,20 +1,23 @@
 -- What the look of a land says: 5, 6, or what an aim keeps of a sound land; and what a step of a sound land gives. Assumes nothing.
 use Prim.Native.Nat.{ℕ, ◌<◌}
-use mathlib.Core.Bool.{Bool, true, false, cond}
+use mathlib.Core.Bool.{Bool, true, false}
 use mathlib.Core.List.{List}
 use mathlib.Core.Option.{none}
 use mathlib.Core.Path.{◌≡◌, refl, sym, ap, ◌∙◌}
 use native.Mathlib.Omega.{arith}
 use lib.Dec.{eqb}
+use Rattle.std.specs.Prelude.{Result, Ok, Err}
+use Rattle.units.specs.Rules.{refusal_number}
 use Rattle.units.specs.inner.Aims.{none_range}
 use Rattle.units.specs.declared.Addr.{Addr}
 use Rattle.units.specs.declared.Range as units
 use Rattle.units.specs.declared.aims.Aim.{Aim}
+use Rattle.units.specs.declared.refusals.Refusal.{Refusal}
 use Rattle.model.specs.Calls.{Call, Outcome, refused, accepted}
 use Rattle.model.specs.inner.Laws.{Fine}
 use Rattle.model.specs.Layouts.{holding, reading, Done}
 use Rattle.model.specs.inner.Lists.{Apart, Mem}
-use Rattle.model.specs.inner.Looks.{Looked}
+use Rattle.model.specs.inner.Looks.{Looked, look_of, look_number}
 use Rattle.model.specs.Marks.{Range, struct}
 use Rattle.model.specs.inner.Picks.{here_of}
 use Rattle.model.specs.inner.Steps.{list_ops, step}
@@ -25,31 +28,31 @@ use Rattle.model.proofs.lands.Ways.{above}
 use Rattle.model.proofs.Reaching.{reach}
 use Rattle.model.proofs.Outcomes.{call-fault, call-refused, call-accepted, fault-number, read_whole}
 
--- THE NUMBER THAT THE TWO TESTS GIVE
-abbrev pub said : Bool → Bool → ℕ
-said g s = cond g (cond s 0 6) 5
+-- THE ANSWER THAT THE TWO TESTS GIVE
+module _ {S : Type 0} (g s : Bool) (k : S) where
+  pub look-ok : (x : S) → Ok x ≡ look_of g s k → (g ≡ true) × (s ≡ true) × (x ≡ k)
+  look-ok x = go g s
+    where
+      go : (g' s' : Bool) → Ok x ≡ look_of g' s' k → (g' ≡ true) × (s' ≡ true) × (x ≡ k)
+      go false s' e = let z : ◌≡◌ {A = ℕ} 0 1 = cc in absurd (omega arith)
+      go true false e = let z : ◌≡◌ {A = ℕ} 0 1 = cc in absurd (omega arith)
+      go true true e = (refl, refl, cc)
 
-pub said-5 : (g s : Bool) → said g s ≡ 5 → g ≡ false
-said-5 false s e = refl
-said-5 true false e = absurd (omega arith)
-said-5 true true e = absurd (omega arith)
+  pub look-err : {P : Type 0} (x : Refusal) → Err x ≡ look_of g s k →
+      (g ≡ false → x ≡ Refusal.SetUp → P) → (g ≡ true → s ≡ false → x ≡ Refusal.Damaged → P) → P
+  look-err {P} x = go g s
+    where
+      go : (g' s' : Bool) → Err x ≡ look_of g' s' k → (g' ≡ false → x ≡ Refusal.SetUp → P) → (g' ≡ true → s' ≡ false → x ≡ Refusal.Damaged → P) → P
+      go false s' e bad damaged = bad refl cc
+      go true false e bad damaged = damaged refl refl cc
+      go true true e bad damaged = let z : ◌≡◌ {A = ℕ} 0 1 = cc in absurd (omega arith)
 
-pub said-6 : (g s : Bool) → said g s ≡ 6 → (g ≡ true) × (s ≡ false)
-said-6 false s e = absurd (omega arith)
-said-6 true false e = (refl, refl)
-said-6 true true e = absurd (omega arith)
+fault-is : {S : Type 0} (g s : Bool) (k : S) (rs : List Range) → look_number (look_of g s k) ≡ fault-number (reading g s rs)
+fault-is false s k rs = refl
+fault-is true false k rs = refl
+fault-is true true k rs = refl
 
-pub said-0 : (g s : Bool) → said g s ≡ 0 → (g ≡ true) × (s ≡ true)
-said-0 false s e = absurd (omega arith)
-said-0 true false e = absurd (omega arith)
-said-0 true true e = (refl, refl)
-
-fault-is : (g s : Bool) (rs : List Range) → said g s ≡ fault-number (reading g s rs)
-fault-is false s rs = refl
-fault-is true false rs = refl
-fault-is true true rs = refl
-
-module _ {H L S C F : Type 0} (I : Land H L S C F) where
+module _ {H S C F : Type 0} (I : Land H S C F) where
   abbrev LandDone : Type 0
   LandDone = Done Outcome H (List ℕ)
 
@@ -69,18 +72,12 @@ module _ {H L S C F : Type 0} (I : Land H L S C F) where
   abbrev pub Kept : H → List ℕ → Aim → S → Type 0
   Kept h ws aim s = Looked (I.set-up h ws) (I.sound h ws) (I.keep aim (I.ranges h ws)) s
 
-  number_is : (g s : Bool) (x : S) → I.number (cond g (cond s (I.whole x) I.damaged) I.bad) ≡ said g s
-  number_is false s x = I.number-bad
-  number_is true false x = I.number-damaged
-  number_is true true x = I.number-whole x
-
-  pub look-said : (h : H) (ws : List ℕ) (aim : Aim) → I.number (I.look h ws aim) ≡ said (I.set-up h ws) (I.sound h ws)
-  look-said h ws aim = ap I.number (I.looks h ws aim) ∙ number_is (I.set-up h ws) (I.sound h ws) (I.keep (I.aimed h aim) (I.ranges h ws))
-
   -- the number of a look is the one that the handle and the words are read with
-  pub look-number : (h : H) (ws : List ℕ) (aim : Aim) → I.number (I.look h ws aim) ≡ fault-number (I.layout.read h ws)
+  pub look-number : (h : H) (ws : List ℕ) (aim : Aim) → look_number (I.look h ws aim) ≡ fault-number (I.layout.read h ws)
   look-number h ws aim =
-      look-said h ws aim ∙ fault-is (I.set-up h ws) (I.sound h ws) (I.ranges h ws) ∙ ap fault-number (sym (I.reads h ws))
+      ap look_number (I.looks h ws aim)
+      ∙ fault-is (I.set-up h ws) (I.sound h ws) (I.keep (I.aimed h aim) (I.ranges h ws)) (I.ranges h ws)
+      ∙ ap fault-number (sym (I.reads h ws))
 
   -- writing what is read changes no word
   pub read_back : (h : H) (ws : List ℕ) (rs : List Range) → I.layout.read h ws ≡ holding rs → I.layout.words h ws rs ≡ ws
@@ -115,24 +112,24 @@ module _ {H L S C F : Type 0} (I : Land H L S C F) where
       pub refused-find : (w : F) → w ≡ I.find-made h n none_range none_range → (vs : List ℕ) → vs ≡ ws → Finds w vs (I.does c h ws)
       refused-find w k vs v = (rw e k, rw e v)
 
-  module _ (h : H) (ws : List ℕ) (aim : Aim) (v : L) (e : v ≡ I.look h ws aim) where
-    told : I.number v ≡ said (I.set-up h ws) (I.sound h ws)
-    told = ap I.number e ∙ look-said h ws aim
+  module _ (h : H) (ws : List ℕ) (aim : Aim) (v : Result S Refusal) (e : v ≡ I.look h ws aim) where
+    abbrev kept : S
+    kept = I.keep (I.aimed h aim) (I.ranges h ws)
 
-    pub saw : (s : S) → v ≡ I.whole s → Kept h ws (I.aimed h aim) s
+    told : v ≡ look_of (I.set-up h ws) (I.sound h ws) (I.keep (I.aimed h aim) (I.ranges h ws))
+    told = e ∙ I.looks h ws aim
+
+    pub saw : (s : S) → v ≡ Ok s → Kept h ws (I.aimed h aim) s
     saw s f =
-        let t = said-0 (I.set-up h ws) (I.sound h ws) (sym told ∙ ap I.number f ∙ I.number-whole s) in
-        let u : v ≡ I.whole (I.keep (I.aimed h aim) (I.ranges h ws)) = e ∙ I.looks h ws aim ∙ rw (t.0, t.1) in
-        record { good = t.0; whole = t.1; kept = I.same s (I.keep (I.aimed h aim) (I.ranges h ws)) (sym f ∙ u) }
+        let t = look-ok (I.set-up h ws) (I.sound h ws) kept s (sym f ∙ told) in
+        record { good = t.0; whole = t.1; kept = t.2 }
 
-    module _ (c : Call) where
-      pub saw-5 : v ≡ I.bad → refuses h ws c 5
-      saw-5 f = bad-is-5 h ws c (said-5 (I.set-up h ws) (I.sound h ws) (sym told ∙ ap I.number f ∙ I.number-bad))
-
-      pub saw-6 : v ≡ I.damaged → refuses h ws c 6
-      saw-6 f =
-          let s = said-6 (I.set-up h ws) (I.sound h ws) (sym told ∙ ap I.number f ∙ I.number-damaged) in
-          damaged-is-6 h ws c s.0 s.1
+    -- 5 and 6
+    pub saw-err : (c : Call) (x : Refusal) → v ≡ Err x → refuses h ws c (refusal_number x)
+    saw-err c x f =
+        look-err (I.set-up h ws) (I.sound h ws) kept x (sym f ∙ told)
+        (λ g q. rw q (bad-is-5 h ws c g))
+        (λ g s q. rw q (damaged-is-6 h ws c g s))
 
   -- what an aim at the first range that reaches x keeps
   pub kept-reach : (x : Addr) (lo hi : ℕ) (rs : List Range) → 0 < lo → Apart lo hi rs →

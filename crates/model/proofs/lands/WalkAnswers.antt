@@ -4,9 +4,12 @@ use mathlib.Core.Bool.{Bool, true, false}
 use mathlib.Core.List.{List}
 use mathlib.Core.Path.{◌≡◌, refl, sym, ap, ◌∙◌}
 use lib.Dec.{eqb}
+use Rattle.std.specs.Prelude.{Result, Ok, Err}
+use Rattle.units.specs.Rules.{refusal_number}
 use Rattle.units.specs.inner.Aims.{none_range}
 use Rattle.units.specs.declared.Addr.{Addr}
 use Rattle.units.specs.declared.aims.Aim.{Aim}
+use Rattle.units.specs.declared.refusals.Refusal.{Refusal}
 use Rattle.model.specs.Calls.{Outcome, walk}
 use Rattle.model.specs.Layouts.{Done}
 use Rattle.model.specs.Marks.{Range, rng}
@@ -18,20 +21,17 @@ use Rattle.model.proofs.Chosen.{none-chosen, some-chosen}
 use Rattle.model.proofs.Finding.{walk-visits, walk-keeps}
 use Rattle.model.proofs.lands.Land.{Land}
 use Rattle.model.proofs.lands.Ways.{above}
-use Rattle.model.proofs.lands.Looking.{handle-back, Kept, changed, read_back, saw, saw-5, saw-6, refused-change, fine, is-kept, mem-above, step-refused, done-change}
+use Rattle.model.proofs.lands.Looking.{handle-back, Kept, changed, read_back, saw, saw-err, refused-change, fine, is-kept, mem-above, step-refused, done-change}
 
-module _ {H L S C F : Type 0} (I : Land H L S C F) (h : H) (ws : List ℕ) where
+module _ {H S C F : Type 0} (I : Land H S C F) (h : H) (ws : List ℕ) where
   pub walk-words : (x : ℕ) → ws ≡ (I.does (walk x) h ws).words
   walk-words x = sym (ap (λ (d : Done Outcome H (List ℕ)). d.words) (I.is_call (walk x) h ws) ∙ walk-keeps I.layout (read_back I) x h ws)
 
-  module _ (x : Addr) (v : L) (e : v ≡ I.look h ws (Aim.From x)) where
-    pub walk_5 : v ≡ I.bad → (w : C) → w ≡ I.change h 5 none_range → w ≡ changed I (I.does (walk x.0) h ws)
-    walk_5 f w k = (refused-change I h ws (walk x.0) 5 (saw-5 I h ws (Aim.From x) v e (walk x.0) f) w k ws refl).0
+  module _ (x : Addr) (v : Result S Refusal) (e : v ≡ I.look h ws (Aim.From x)) where
+    pub walk-err : (r : Refusal) → v ≡ Err r → (w : C) → w ≡ I.change h (refusal_number r) none_range → w ≡ changed I (I.does (walk x.0) h ws)
+    walk-err r f w k = (refused-change I h ws (walk x.0) (refusal_number r) (saw-err I h ws (Aim.From x) v e (walk x.0) r f) w k ws refl).0
 
-    pub walk_6 : v ≡ I.damaged → (w : C) → w ≡ I.change h 6 none_range → w ≡ changed I (I.does (walk x.0) h ws)
-    walk_6 f w k = (refused-change I h ws (walk x.0) 6 (saw-6 I h ws (Aim.From x) v e (walk x.0) f) w k ws refl).0
-
-    module _ (s : S) (f : v ≡ I.whole s) (t : Bool) (et : t ≡ eqb (I.here s).base.0 0) where
+    module _ (s : S) (f : v ≡ Ok s) (t : Bool) (et : t ≡ eqb (I.here s).base.0 0) where
       k : Kept I h ws (Aim.From x) s
       k = rw (I.aims-from h x) at (saw I h ws (Aim.From x) v e s f)
 

@@ -14,14 +14,14 @@ use Rattle.units.specs.declared.rules.Arena.{Arena}
 use Rattle.units.specs.declared.rules.ArenaError.{ArenaError}
 use Rattle.units.specs.declared.refusals.Refusal.{Refusal}
 use Rattle.units.proofs.Alignments.{align-positive}
-use Rattle.units.proofs.Cases.{good-case, bad-arena, set-up-true, set-up-false, sound-true, sound-false}
+use Rattle.units.proofs.Cases.{good-case, bad-arena, set-up-true, set-up-err, sound-true, sound-false, sound-err}
 use Rattle.units.proofs.Facts.{GoodArena, arena-facts}
-use Rattle.units.proofs.Tests.{by, and_left}
+use Rattle.units.proofs.Tests.{and_left}
 use Rattle.model.specs.Answers.{LandRight}
 use Rattle.model.proofs.Calling.{read-rows, call-right}
 use Rattle.model.proofs.lands.Land.{Land, check-of}
 
-module _ {H L S C F : Type 0} (X : Land H L S C F) where
+module _ {H S C F : Type 0} (X : Land H S C F) where
   -- A REFUSAL
   pub refused-made : (h : H) (n : ℕ) (r : units.Range) → r ≡ range_of 0 0 → X.change h n r ≡ X.change h n (range_of 0 0)
   refused-made h n r e = rw e
@@ -60,8 +60,8 @@ module _ {H L S C F : Type 0} (X : Land H L S C F) where
     good-positive a ea = rw ea (align-positive (X.arena-in h).align.0 good-align)
 
   -- THE LOOK
-  pub look-bad : (h : H) (ws : List ℕ) (aim : Aim) (r : Checked) → r ≡ set_up_of (X.set-up h ws) → r ≡ Err Refusal.SetUp → X.bad ≡ X.look h ws aim
-  look-bad h ws aim r e f = rw (X.looks h ws aim, set-up-false (X.set-up h ws) r e f)
+  pub look-bad : (h : H) (ws : List ℕ) (aim : Aim) (r : Checked) (x : Refusal) → r ≡ set_up_of (X.set-up h ws) → r ≡ Err x → Err x ≡ X.look h ws aim
+  look-bad h ws aim r x e f = rw (X.looks h ws aim, (set-up-err (X.set-up h ws) x (sym f ∙ e)).0, (set-up-err (X.set-up h ws) x (sym f ∙ e)).1)
 
   -- low water judged: where it is bad the land is not sound, else soundness is what is judged of the memory and the counts
   module _ (h : H) (z : Checked) (ez : z ≡ soundness_of (sound_low (X.layout.noted h) (X.bytes h).0)) where
@@ -72,17 +72,15 @@ module _ {H L S C F : Type 0} (X : Land H L S C F) where
     low-sound g ws = rw (X.sound-is h ws, sound-true (sound_low (X.layout.noted h) (X.bytes h).0) z ez g, and-true (X.judged h ws))
 
     module _ (ws : List ℕ) (aim : Aim) (r : Checked) (e : r ≡ set_up_of (X.set-up h ws)) (f : r ≡ Ok tt) where
-      pub look-low : z ≡ Err Refusal.Damaged → X.damaged ≡ X.look h ws aim
-      look-low g = rw (X.looks h ws aim, set-up-true (X.set-up h ws) r e f, low-damaged g ws)
+      pub look-low : (x : Refusal) → z ≡ Err x → Err x ≡ X.look h ws aim
+      look-low x g =
+          let p = sound-err (sound_low (X.layout.noted h) (X.bytes h).0) x (sym g ∙ ez) in
+          rw (X.looks h ws aim, set-up-true (X.set-up h ws) r e f, low-damaged (rw p.1 at g) ws, p.1)
 
-      -- what a survey answers, told as a look
-      pub look-told : {T : Type 0} (tell : T → L) (damaged : T) (sound : S → T) → tell damaged ≡ X.damaged → ((s : S) → tell (sound s) ≡ X.whole s) →
-          z ≡ Ok tt → (v : T) → v ≡ cond (X.judged h ws) (sound (X.keep (X.aimed h aim) (X.ranges h ws))) damaged → tell v ≡ X.look h ws aim
-      look-told tell damaged sound ed es g v ev =
-          let k = set-up-true (X.set-up h ws) r e f in
-          by (X.judged h ws)
-          (λ t. rw (ev, X.looks h ws aim, k, low-sound g ws, t) (es (X.keep (X.aimed h aim) (X.ranges h ws))))
-          (λ t. rw (ev, X.looks h ws aim, k, low-sound g ws, t) ed)
+      -- what a survey answers
+      pub look-told : z ≡ Ok tt → (v : Result S Refusal) →
+          v ≡ cond (X.judged h ws) (Ok (X.keep (X.aimed h aim) (X.ranges h ws))) (Err Refusal.Damaged) → v ≡ X.look h ws aim
+      look-told g v ev = rw (ev, X.looks h ws aim, set-up-true (X.set-up h ws) r e f, low-sound g ws)
 
   -- EVERY CALL
   pub land-right : LandRight X.layout X.set-up X.sound X.ranges

@@ -1,5 +1,5 @@
 -- Contracts of the inner functions of a find of a pair. Assumes nothing.
-use Rattle.std.specs.Prelude.{ℕ, ◌≤◌, cond, List, eqb}
+use Rattle.std.specs.Prelude.{ℕ, ◌≤◌, cond, List, eqb, Option, Some, None}
 use Rattle.units.specs.Rules.{find_size}
 use Rattle.units.specs.declared.Range.{Range}
 use Rattle.units.specs.declared.Size.{Size}
@@ -36,11 +36,11 @@ pub record Ordered (r q : Range) : Type 0 where
   pub block : q.base.0 ≤ q.limit.0
 
 -- Neither land has a range, base 0; one has; or the one that comes first.
-unfoldable pub side_of : Which → Range → Range → Side
+unfoldable pub side_of : Which → Range → Range → Option Side
 side_of w r q =
     cond (eqb r.base.0 0)
-    (cond (eqb q.base.0 0) Side.Neither Side.Block)
-    (cond (eqb q.base.0 0) Side.List (cond (list_first w (plain r) (plain q)) Side.List Side.Block))
+    (cond (eqb q.base.0 0) None (Some Side.Block))
+    (cond (eqb q.base.0 0) (Some Side.List) (cond (list_first w (plain r) (plain q)) (Some Side.List) (Some Side.Block)))
 
 -- A spot of a sound list, and an entry of a sound table, that a find of a good size has chosen.
 abbrev pub ListChosen : ListLand → List ℕ → Which → Size → Spot → Type 0

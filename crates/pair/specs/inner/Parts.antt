@@ -1,9 +1,11 @@
 -- Contracts of the inner functions that every call of a pair uses. Assumes nothing.
-use Rattle.std.specs.Prelude.{ℕ, Bool, true, cond, ◌&&◌, List, ◌≡◌}
+use Rattle.std.specs.Prelude.{ℕ, Bool, true, cond, ◌&&◌, List, ◌≡◌, Result, Ok, Err}
 use Rattle.units.specs.LowWater.{sound_low}
+use Rattle.units.specs.Rules.{refusal_number}
 use Rattle.units.specs.Words.{range_of}
 use Rattle.units.specs.declared.Range.{Range}
 use Rattle.units.specs.declared.aims.Aim.{Aim}
+use Rattle.units.specs.declared.refusals.Refusal.{Refusal}
 use Rattle.model.specs.Calls.{good_range_in}
 use Rattle.list_words.specs.inner.Surveys.{kept_of}
 use Rattle.list_words.specs.declared.Spot.{Spot}
@@ -16,7 +18,6 @@ use Rattle.pair.specs.Calls.{set_up, sound}
 use Rattle.pair.specs.declared.Changed.{Changed}
 use Rattle.pair.specs.declared.Found.{Found}
 use Rattle.pair.specs.declared.Pair.{Pair}
-use Rattle.pair.specs.declared.PairCheck.{PairCheck}
 
 -- What a call looks for, by the arena of both lands.
 abbrev pub aim_in : Pair → Aim → Aim
@@ -28,17 +29,16 @@ sound_lows p = sound_low p.list.water p.list.bytes.0 && sound_low p.block.water 
 
 module _ (p : Pair) (ws vs : List ℕ) where
   -- 5, then 6, then what the aim keeps of both.
-  unfoldable pub check_of : Aim → PairCheck
+  unfoldable pub check_of : Aim → Result (Spot × Entry) Refusal
   check_of aim =
       cond (set_up p ws vs)
-      (cond (sound p ws vs) (PairCheck.Good (kept_of (aim_in p aim) (list.walk_of p.list ws).met) (entry_of (aim_in p aim) (block.table_of p.block vs))) PairCheck.Damaged)
-      PairCheck.BadSetUp
+      (cond (sound p ws vs) (Ok (kept_of (aim_in p aim) (list.walk_of p.list ws).met, entry_of (aim_in p aim) (block.table_of p.block vs))) (Err Refusal.Damaged))
+      (Err Refusal.SetUp)
 
 -- 01's number of each case: 5, 6, or 0.
-abbrev pub check_number : PairCheck → ℕ
-check_number PairCheck.BadSetUp = 5
-check_number PairCheck.Damaged = 6
-check_number (PairCheck.Good s e) = 0
+abbrev pub check_number : Result (Spot × Entry) Refusal → ℕ
+check_number (Ok k) = 0
+check_number (Err r) = refusal_number r
 
 -- Both lands are sound and apart, and these are what an aim keeps of them.
 pub record Checked (p : Pair) (ws vs : List ℕ) (aim : Aim) (s : Spot) (e : Entry) : Type 0 where
