@@ -16,7 +16,7 @@ ghost use Rattle.list_edits.specs.inner.Joins.{join_edit, Putting, join_done};
 ghost use Rattle.list_edits.specs.inner.Chains.{met_of, Held, may_ask, Holding, joined_of, joined_words, put_of, put_words, cut_chain, cut_words, cut_of, cut_out_words};
 
 use list_words::{Chain, Spot};
-use units::{Addr, Arena, Range};
+use units::{Addr, Arena, Range, Refusal};
 
 // What is to stand behind a range: low, then high, each if it is not empty, then the range at next.
 #[derive(Clone, Copy)]
@@ -28,29 +28,20 @@ pub struct Edit {
 }
 
 // The place of a range: behind `prev` and before the range at `next` it becomes `fresh`, joined with as many neighbours as
-// `joins` says. Where it overlaps a range of the list it has no place, and `overlaps` says so.
+// `joins` says. A range that overlaps one of the list has none.
 #[derive(Clone, Copy)]
 pub struct Join {
     pub prev: Range,
     pub fresh: Range,
     pub next: Addr,
     pub joins: u64,
-    pub overlaps: bool,
 }
 
-// A range put in: the chain afterwards, and the range that holds it.
+// A range put in or taken out: the chain afterwards, and the range that holds it, or held it before.
 #[derive(Clone, Copy)]
 pub struct ChainJoined {
     pub chain: Chain,
     pub range: Range,
-}
-
-// What a range put in or taken out gives: some byte of it is in the list already, or is not in it; or the chain afterwards,
-// and the range that holds it, or held it before.
-#[derive(Clone, Copy)]
-pub enum ChainEdited {
-    Refused,
-    Done(Chain, Range),
 }
 
 // Writes the descriptor of a range with the next range's base.
@@ -73,7 +64,7 @@ fn piece(words: &mut [u64], start: Addr, range: Range, next: Addr) -> Addr
     ensures { (result ≡ piece_head range next) × (words.new ≡ piece_words start.0 words.old range next.0) }
 {
     let base = range.base;
-    if !base.lt(range.limit) {
+    if range.limit <= base {
         return next;
     }
     lay(words, start, range, next);
@@ -142,7 +133,7 @@ pub fn join_at(
     requires chain_value { overlaps range.base.0 range.limit.0 (met_of arena words.old chain) ≡ false }
     ensures { (result ≡ joined_of (met_of arena words.old chain) range) × (words.new ≡ joined_words (met_of arena words.old chain) range arena.base.0 words.old) }
 {
-    let place = placing::place(arena, words, range, spot);
+    let place = placing::place(arena, words, range, spot).unwrap();
     put(words, arena.base, chain, range, place)
 }
 
@@ -153,19 +144,15 @@ pub fn put_at(
     chain: Chain,
     range: Range,
     spot: Spot,
-) -> ChainEdited
+) -> Result<ChainJoined, Refusal>
     requires held { Held arena words.old chain (Aim.Reach range.base) spot }
     requires range_value { may_ask arena range ≡ true }
     ensures { (result ≡ put_of (met_of arena words.old chain) range) × (words.new ≡ put_words (met_of arena words.old chain) range arena.base.0 words.old) }
 {
-    let place = placing::place(arena, words, range, spot);
-    if place.overlaps {
-        return ChainEdited::Refused;
-    }
-    let done = put(words, arena.base, chain, range, place);
-    let after = done.chain;
-    let fresh = done.range;
-    ChainEdited::Done(after, fresh)
+    let Some(place) = placing::place(arena, words, range, spot) else {
+        return Err(Refusal::Overlap);
+    };
+    Ok(put(words, arena.base, chain, range, place))
 }
 
 // Whether a range overlaps one of a sound list, by the first range that reaches its base. Where none does, none overlaps.
@@ -177,8 +164,7 @@ pub fn overlaps_at(arena: Arena, words: &[u64], chain: Chain, range: Range, spot
     if spot.here.base.is_zero() {
         return false;
     }
-    let place = placing::place(arena, words, range, spot);
-    place.overlaps
+    placing::place(arena, words, range, spot).is_none()
 }
 
 // Takes a part out of the range at a spot of a sound list, and hands back the chain of what is left.
@@ -207,25 +193,29 @@ pub fn cut_at(arena: Arena, words: &mut [u64], chain: Chain, spot: Spot, part: R
     }
 }
 
-// Takes a range out of the range of a sound list that holds it, at the first range that reaches its limit.
+// Takes a range out of the range of a sound list that holds it, at the first range that reaches its limit. Where none holds it
+// it is refused.
 pub fn cut_out(
     arena: Arena,
     words: &mut [u64],
     chain: Chain,
     range: Range,
     spot: Spot,
-) -> ChainEdited
+) -> Result<ChainJoined, Refusal>
     requires held { Held arena words.old chain (Aim.Reach range.limit) spot }
     requires range_value { may_ask arena range ≡ true }
     ensures { (result ≡ cut_of (met_of arena words.old chain) range) × (words.new ≡ cut_out_words (met_of arena words.old chain) range arena.base.0 words.old) }
 {
     let here = spot.here;
     if here.base.is_zero() {
-        return ChainEdited::Refused;
+        return Err(Refusal::Overlap);
     }
-    if range.base.lt(here.base) {
-        return ChainEdited::Refused;
+    if range.base < here.base {
+        return Err(Refusal::Overlap);
     }
     let left = cut_at(arena, words, chain, spot, range);
-    ChainEdited::Done(left, here)
+    Ok(ChainJoined {
+        chain: left,
+        range: here,
+    })
 }
