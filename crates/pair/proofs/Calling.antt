@@ -6,12 +6,15 @@ use mathlib.Core.Path.{◌≡◌, refl, sym, ap, ◌∙◌}
 use lib.Dec.{eqb}
 use borrow.Author.Tests.{not-true, not-false}
 use Rattle.std.specs.Prelude.{Result, Ok, Err}
+use Rattle.units.specs.declared.refusals.Refusal.{Refusal}
+use Rattle.units.specs.Rules.{refusal_number}
 use Rattle.units.specs.declared.aims.Aim.{Aim}
 use Rattle.units.proofs.Tests.{by, and_left, and_right}
 use Rattle.model.specs.Calls.{refused, accepted}
 use Rattle.model.specs.Layouts.{Reading, fault, holding}
 use Rattle.model.specs.Marks.{Range}
-use Rattle.model.proofs.lands.Looking.{said, said-5, said-6, said-0}
+use Rattle.model.specs.inner.Looks.{look_of}
+use Rattle.model.proofs.lands.Looking.{look-ok, look-err}
 use Rattle.model.proofs.Outcomes.{fault-number}
 use Rattle.list_words.specs.Laying.{lay}
 use Rattle.list_words.specs.inner.Surveys.{kept_of}

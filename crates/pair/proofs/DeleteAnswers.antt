@@ -2,7 +2,8 @@
 use Prim.Native.Nat.{ℕ, ◌-◌, ◌≤◌}
 use mathlib.Core.Bool.{Bool, true, false}
 use mathlib.Core.List.{List}
-use mathlib.Core.Path.{◌≡◌, refl, sym, subst, ◌∙◌}
+use mathlib.Core.Logic.{◌⊎◌, inl, inr}
+use mathlib.Core.Path.{◌≡◌, refl, sym, ap, subst, ◌∙◌}
 use native.Mathlib.Omega.{arith}
 use borrow.Author.Tests.{not-false}
 use Rattle.std.specs.Prelude.{Result, Ok, Err}
@@ -26,7 +27,7 @@ use Rattle.block_words.specs.inner.Surveys as places
 use Rattle.block_words.specs.declared.Entry.{Entry}
 use Rattle.block_edits.specs.inner.Edits.{Sorted, cut_of, cut_words}
 use Rattle.block_edits.specs.declared.TableEdited.{TableEdited}
-use Rattle.block_edits.proofs.Answered.{cut-refused, cut-full, cut-done, cut-words}
+use Rattle.block_edits.proofs.Answered.{cut-refusal, cut-refused, cut-full, cut-done, cut-words}
 use Rattle.block_land.specs.Layout as block
 use Rattle.block_land.specs.declared.BlockLand.{BlockLand}
 use Rattle.block_land.proofs.EditAnswers as block-edits
@@ -70,7 +71,7 @@ module _ (p : Pair) (ws vs : List ℕ) (y : units.Range) (s : Spot) (e : Entry) 
         pair_step (block.arena_of p.block vs) (delete b l) (both rs qs) ≡ record { out = accepted f (rng 0 0); next = both rs' qs' } →
         (x : units.Range) → x ≡ struct f → (h : ListLand) → h ≡ list.closed p.list rs' → (m : BlockLand) → m ≡ block.closed p.block qs' →
         (ws' vs' : List ℕ) → ws' ≡ lay (list.base p.list) rs' ws → vs' ≡ fill qs' vs →
-        Deletes p ws vs y (record { pair = record { list = h; block = m }; answer = 0; range = x.range }) ws' vs'
+        Deletes p ws vs y (record { pair = record { list = h; block = m }; answer = 0; range = x }) ws' vs'
     does f rs' qs' d x ex h eh m em ws' vs' ew ev =
         let c = is-delete p ws vs y ∙ accepts p ws vs (reach_limit y) s e k.checked (delete b l) f (rng 0 0) rs' qs' d in
         (rw c (λ i. record { pair = record { list = eh i; block = em i }; answer = 0; range = ex i }), rw c ew, rw c ev)

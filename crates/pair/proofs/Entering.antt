@@ -22,7 +22,8 @@ use Rattle.list_land.specs.Layout as list
 use Rattle.list_land.specs.inner.Parts as list-parts
 use Rattle.list_land.specs.declared.ListLand.{ListLand}
 use Rattle.block_edits.specs.inner.Edits as edits
-use Rattle.block_edits.specs.inner.Edits.{Sorted}
+use Rattle.block_edits.specs.inner.Edits.{Sorted, done_by}
+use Rattle.block_edits.specs.declared.TableEdited.{TableEdited}
 use Rattle.block_edits.proofs.Answered.{Did}
 use Rattle.block_land.specs.Layout as block
 use Rattle.block_land.specs.inner.Parts as block-parts

@@ -4,8 +4,10 @@ use mathlib.Core.Bool.{Bool, true, cond}
 use mathlib.Core.List.{List}
 use mathlib.Core.Path.{◌≡◌, refl, sym, ap, ap₂, subst, ◌∙◌}
 use Rattle.std.specs.Prelude.{Result, Ok, Err}
+use Rattle.std.specs.Prelude.{Option as Maybe, Some, None}
+use Rattle.units.specs.declared.refusals.Refusal.{Refusal}
 use Rattle.units.specs.inner.Aims as units-aims
-use Rattle.units.specs.Rules.{good_align, find_check, find_size}
+use Rattle.units.specs.Rules.{good_align, find_check, find_size, refusal_number}
 use Rattle.units.specs.declared.Mode.{Mode}
 use Rattle.units.specs.declared.Range as units
 use Rattle.units.specs.declared.Size.{Size}
@@ -42,7 +44,7 @@ use Rattle.pair.specs.declared.Found.{Found}
 use Rattle.pair.specs.declared.Pair.{Pair}
 use Rattle.pair.specs.declared.find.Side.{Side}
 use Rattle.pair.proofs.Checking.{block_up, same_up}
-use Rattle.pair.proofs.Calling.{Hands, answers-5, answers-6, list-looked, block-looked, refuses, accepts, refuse}
+use Rattle.pair.proofs.Calling.{Hands, answers-err, list-looked, block-looked, refuses, accepts, refuse}
 use Rattle.pair.proofs.FindLands.{find-accepts, find-done}
 use Rattle.pair.proofs.Sides.{list-there, block-there, by_side, side-step}
 
@@ -83,7 +85,7 @@ module _ (p : Pair) (ws vs : List ℕ) (w : Which) (n : Size) (mode : Mode) (s :
   pub find-ordered : Ordered s.here e.here
   find-ordered = record { list = chosen-order list_land p.list ws w n s in-list-kept; block = chosen-order block_land p.block vs w n e in-block-kept }
 
-  module _ (g : good_size_in (block.arena_of p.block vs) w n.0 ≡ true) (t : std.Option Side) (et : t ≡ side_of w s.here e.here) where
+  module _ (g : good_size_in (block.arena_of p.block vs) w n.0 ≡ true) (t : Maybe Side) (et : t ≡ side_of w s.here e.here) where
     -- the step is the one of the side that the code takes
     stepped : pair_step (block.arena_of p.block vs) (find w n.0 mode) (both (list.walk_of p.list ws).met (block.table_of p.block vs))
         ≡ by_side (block.arena_of p.block vs) (land.find w n.0 mode) w (both (list.walk_of p.list ws).met (block.table_of p.block vs)) t

@@ -6,8 +6,7 @@ use mathlib.Core.Path.{◌≡◌, refl, sym, ◌∙◌}
 use native.Mathlib.Omega.{arith}
 use lib.Dec.{ltb, eqb}
 use borrow.Author.Tests.{ne_eqb, not-true, not-false}
-use Rattle.std.specs.Prelude as std
-use Rattle.std.specs.Prelude.{Some, None}
+use Rattle.std.specs.Prelude.{Option as Maybe, Some, None}
 use Rattle.std.specs.Prelude.{Result, Ok, Err}
 use Rattle.units.specs.declared.Range as units
 use Rattle.units.specs.declared.Size.{Size}
@@ -97,7 +96,7 @@ module _ (w : Which) (r q : units.Range) where
 
 -- the step of each side
 module _ (a : Arena) (c : land.Call) (w : Which) (s : Sets) where
-  abbrev pub by_side : std.Option Side → Step Sets
+  abbrev pub by_side : Maybe Side → Step Sets
   by_side None = keep 2 s
   by_side (Some Side.List) = in_list (list_step a c s.list) s.block
   by_side (Some Side.Block) = in_block s.list (block_step a c s.block)

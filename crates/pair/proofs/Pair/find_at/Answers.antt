@@ -13,35 +13,35 @@ check_find-requires c =
 
 pub returns-in_default : goal.returns-in_default
 returns-in_default c =
-    find-4 c.args.self _ _ c.args.which c.args.size _ _ c.requires _ (c.by_bit.ensures ∙ c.arena.ensures) _ c.check_find.ensures c.in_default.not-Good
+    find-4 c.args.self _ _ c.args.which c.args.size _ _ c.requires _ (c.by_bit.ensures ∙ c.arena.ensures) _ c.check_find.ensures c.in_default.not-Ok
     c.args.mode _ c.none_found.ensures
 
 pub choose_side-requires : goal.choose_side-requires
 choose_side-requires c =
     let a = c.args in
-    find-ordered a.self _ _ a.which a.size a.mode _ _ (find-ready c.args.self _ _ c.args.which c.args.size _ _ c.requires _ (c.by_bit.ensures ∙ c.arena.ensures) _ c.check_find.ensures c.in-Good.is).0
+    find-ordered a.self _ _ a.which a.size a.mode _ _ (find-ready c.args.self _ _ c.args.which c.args.size _ _ c.requires _ (c.by_bit.ensures ∙ c.arena.ensures) _ c.check_find.ensures c.in-Ok.is).0
 
 pub find_in_list-requires : goal.find_in_list-requires
 find_in_list-requires c =
     let a = c.args in
-    list-chosen a.self _ _ a.which a.size a.mode _ _ (find-ready c.args.self _ _ c.args.which c.args.size _ _ c.requires _ (c.by_bit.ensures ∙ c.arena.ensures) _ c.check_find.ensures c.in-Good.is).0 (find-ready c.args.self _ _ c.args.which c.args.size _ _ c.requires _ (c.by_bit.ensures ∙ c.arena.ensures) _ c.check_find.ensures c.in-Good.is).1 _ c.choose_side.ensures c.in-List.is
+    list-chosen a.self _ _ a.which a.size a.mode _ _ (find-ready c.args.self _ _ c.args.which c.args.size _ _ c.requires _ (c.by_bit.ensures ∙ c.arena.ensures) _ c.check_find.ensures c.in-Ok.is).0 (find-ready c.args.self _ _ c.args.which c.args.size _ _ c.requires _ (c.by_bit.ensures ∙ c.arena.ensures) _ c.check_find.ensures c.in-Ok.is).1 _ c.choose_side.ensures c.in-Some-List.is
 
 pub find_in_block-requires : goal.find_in_block-requires
 find_in_block-requires c =
     let a = c.args in
-    block-chosen a.self _ _ a.which a.size a.mode _ _ (find-ready c.args.self _ _ c.args.which c.args.size _ _ c.requires _ (c.by_bit.ensures ∙ c.arena.ensures) _ c.check_find.ensures c.in-Good.is).0 (find-ready c.args.self _ _ c.args.which c.args.size _ _ c.requires _ (c.by_bit.ensures ∙ c.arena.ensures) _ c.check_find.ensures c.in-Good.is).1 _ c.choose_side.ensures c.in-Block.is
+    block-chosen a.self _ _ a.which a.size a.mode _ _ (find-ready c.args.self _ _ c.args.which c.args.size _ _ c.requires _ (c.by_bit.ensures ∙ c.arena.ensures) _ c.check_find.ensures c.in-Ok.is).0 (find-ready c.args.self _ _ c.args.which c.args.size _ _ c.requires _ (c.by_bit.ensures ∙ c.arena.ensures) _ c.check_find.ensures c.in-Ok.is).1 _ c.choose_side.ensures c.in-Some-Block.is
 
-pub returns-in-Neither : goal.returns-in-Neither
-returns-in-Neither c =
+pub returns-in-None : goal.returns-in-None
+returns-in-None c =
     let a = c.args in
-    find-2 a.self _ _ a.which a.size a.mode _ _ (find-ready c.args.self _ _ c.args.which c.args.size _ _ c.requires _ (c.by_bit.ensures ∙ c.arena.ensures) _ c.check_find.ensures c.in-Good.is).0 (find-ready c.args.self _ _ c.args.which c.args.size _ _ c.requires _ (c.by_bit.ensures ∙ c.arena.ensures) _ c.check_find.ensures c.in-Good.is).1 _ c.choose_side.ensures c.in-Neither.is _ c.none_found-in-Neither.ensures
+    find-2 a.self _ _ a.which a.size a.mode _ _ (find-ready c.args.self _ _ c.args.which c.args.size _ _ c.requires _ (c.by_bit.ensures ∙ c.arena.ensures) _ c.check_find.ensures c.in-Ok.is).0 (find-ready c.args.self _ _ c.args.which c.args.size _ _ c.requires _ (c.by_bit.ensures ∙ c.arena.ensures) _ c.check_find.ensures c.in-Ok.is).1 _ c.choose_side.ensures c.in-None.is _ c.none_found-in-None.ensures
 
-pub returns-in-List : goal.returns-in-List
-returns-in-List c =
+pub returns-in-Some-List : goal.returns-in-Some-List
+returns-in-Some-List c =
     let a = c.args in
-    find-list a.self _ _ a.which a.size a.mode _ _ (find-ready c.args.self _ _ c.args.which c.args.size _ _ c.requires _ (c.by_bit.ensures ∙ c.arena.ensures) _ c.check_find.ensures c.in-Good.is).0 (find-ready c.args.self _ _ c.args.which c.args.size _ _ c.requires _ (c.by_bit.ensures ∙ c.arena.ensures) _ c.check_find.ensures c.in-Good.is).1 _ c.choose_side.ensures c.in-List.is _ _ c.find_in_list.ensures
+    find-list a.self _ _ a.which a.size a.mode _ _ (find-ready c.args.self _ _ c.args.which c.args.size _ _ c.requires _ (c.by_bit.ensures ∙ c.arena.ensures) _ c.check_find.ensures c.in-Ok.is).0 (find-ready c.args.self _ _ c.args.which c.args.size _ _ c.requires _ (c.by_bit.ensures ∙ c.arena.ensures) _ c.check_find.ensures c.in-Ok.is).1 _ c.choose_side.ensures c.in-Some-List.is _ _ c.find_in_list.ensures
 
-pub returns-in-Block : goal.returns-in-Block
-returns-in-Block c =
+pub returns-in-Some-Block : goal.returns-in-Some-Block
+returns-in-Some-Block c =
     let a = c.args in
-    find-block a.self _ _ a.which a.size a.mode _ _ (find-ready c.args.self _ _ c.args.which c.args.size _ _ c.requires _ (c.by_bit.ensures ∙ c.arena.ensures) _ c.check_find.ensures c.in-Good.is).0 (find-ready c.args.self _ _ c.args.which c.args.size _ _ c.requires _ (c.by_bit.ensures ∙ c.arena.ensures) _ c.check_find.ensures c.in-Good.is).1 _ c.choose_side.ensures c.in-Block.is _ _ c.find_in_block.ensures
+    find-block a.self _ _ a.which a.size a.mode _ _ (find-ready c.args.self _ _ c.args.which c.args.size _ _ c.requires _ (c.by_bit.ensures ∙ c.arena.ensures) _ c.check_find.ensures c.in-Ok.is).0 (find-ready c.args.self _ _ c.args.which c.args.size _ _ c.requires _ (c.by_bit.ensures ∙ c.arena.ensures) _ c.check_find.ensures c.in-Ok.is).1 _ c.choose_side.ensures c.in-Some-Block.is _ _ c.find_in_block.ensures
