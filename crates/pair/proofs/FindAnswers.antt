@@ -38,7 +38,7 @@ use Rattle.block_land.proofs.Sound as block-sound
 use Rattle.flush.proofs.FlushKeeps.{OneArena}
 use Rattle.pair_model.specs.Pairs.{both, Sets, find, keep, in_list, in_block, find_in, pair_step}
 use Rattle.pair.specs.Calls.{called, found, found_of}
-use Rattle.pair.specs.inner.Finding.{find_aim, Ordered, side_of, ListChosen, BlockChosen, list_found, block_found}
+use Rattle.pair.specs.inner.Finding.{Sought, find_aim, Ordered, side_of, ListChosen, BlockChosen, list_found, block_found}
 use Rattle.pair.specs.inner.Parts.{aim_in, check_of, Checked, found_none}
 use Rattle.pair.specs.declared.Found.{Found}
 use Rattle.pair.specs.declared.Pair.{Pair}
@@ -161,10 +161,6 @@ module _ (p : Pair) (ws vs : List ℕ) (w : Which) (n : Size) (mode : Mode) (v :
   find-err = answers-err p ws vs (Aim.Find w n) v ev found_of (find w n.0 mode) (found p ws vs w n.0 mode) (is_found p ws vs w n.0 mode)
 
 -- THE SIZE
--- a pair that was checked, and what a find of a good size keeps of it
-abbrev pub Asked : Pair → List ℕ → List ℕ → Which → Size → Spot → Entry → Type 0
-Asked p ws vs w n s e = Checked p ws vs (find_aim p w n) s e × (good_size_in (block.arena_of p.block vs) w n.0 ≡ true)
-
 module _ (p : Pair) (ws vs : List ℕ) (w : Which) (n : Size) (s : Spot) (e : Entry) (k : Checked p ws vs (aim_in p (Aim.Find w n)) s e)
     (x : units-arena.Arena) (ex : x ≡ block-parts.arena_in p.block) where
   pub find-align : good_align x.align.0 ≡ true
@@ -186,7 +182,7 @@ module _ (p : Pair) (ws vs : List ℕ) (w : Which) (n : Size) (s : Spot) (e : En
         refuse found_of p ws vs 4 (found p ws vs w n.0 mode)
         (is_found p ws vs w n.0 mode ∙ refuses p ws vs (aim_in p (Aim.Find w n)) s e k (find w n.0 mode) 4 refl (rw z))
 
-    pub find-ready : c ≡ Ok tt → Asked p ws vs w n s e
+    pub find-ready : c ≡ Ok tt → Sought p ws vs w n s e
     find-ready g =
         let a = block-parts.arena_in p.block in
         let f : find_check w a.base.0 a.limit.0 a.align.0 n.0 ≡ Ok tt =
