@@ -13,6 +13,7 @@ use Rattle.lines.specs.inner.Reading.{ReadTo, at_start, request_in}
 use Rattle.lines.specs.declared.Read.{Read}
 use Rattle.lines.specs.declared.Reader.{Reader}
 use Rattle.lines.specs.declared.Request.{Request}
+use Rattle.std.specs.Prelude.{Option}
 use Rattle.texts.proofs.Writing.{same-behind}
 use Rattle.script.specs.Printed.{turn_of}
 use Rattle.script.specs.Calls.{Done, fed_of, over, behind, at_rest, fed, is_ready, script_start}
@@ -81,7 +82,7 @@ has_room s out at d e f = let g = leb-true 105 (length out - at) (and_left _ _ (
 
 module _ (s : Script) (ws bytes : List ℕ) (from : ℕ) (o : Read) (t : ReadTo s.reader bytes from o) (out : List ℕ) (at : ℕ)
     (d : Bool) (ed : d ≡ is_ready s.stage (length out - at)) (yes : d ≡ true) (inside : o.at ≡ length bytes → ⊥)
-    (q : Request) (eq : q ≡ request_in o.reader) (r : Turn) (ws' out' : List ℕ)
+    (q : Option Request) (eq : q ≡ request_in o.reader) (r : Turn) (ws' out' : List ℕ)
     (p : Plays (turn_of s.stage ws q) ws' out at out' r) (rd : Reader) (er : rd ≡ at_start) where
   abbrev after : Done
   after = fed (record { stage = r.stage; reader = rd }) ws' (length out - r.at) (drop (o.at + 1) bytes)
