@@ -5,24 +5,15 @@ use mathlib.Core.List.{List, [], ◌∷◌}
 use mathlib.Core.Path.{◌≡◌, refl}
 use native.Mathlib.Omega.{arith}
 use Rattle.units.specs.declared.Addr.{Addr}
-use Rattle.units.specs.declared.Align.{Align}
-use Rattle.units.specs.declared.Mode.{Mode}
-use Rattle.units.specs.declared.Range.{Range}
-use Rattle.units.specs.declared.Size.{Size}
-use Rattle.units.specs.declared.Which.{Which}
-use Rattle.model.proofs.lands.WalkAnswers.{walk-words}
-use Rattle.list_land.specs.Calls.{LandDone, inserted, deleted, found, walked, changed, found_of}
+use Rattle.list_land.specs.Calls.{walked, changed}
 use Rattle.list_land.specs.declared.Changed.{Changed}
-use Rattle.list_land.specs.declared.Found.{Found}
 use Rattle.list_land.specs.declared.ListLand.{ListLand}
-use Rattle.list_land.proofs.Land.{list_land}
 use Rattle.lines.specs.declared.Request.{Request}
 use Rattle.texts.specs.Decimal.{line}
 use Rattle.texts.specs.inner.Writing.{Wrote}
-use Rattle.script.specs.Printed.{question, changed_turn, found_turn, land_turn}
-use Rattle.script.specs.inner.Feeding.{Says, Plays}
+use Rattle.script.specs.Printed.{land_turn}
+use Rattle.script.specs.inner.Feeding.{Plays}
 use Rattle.script.specs.declared.Stage.{Stage}
-use Rattle.script.specs.declared.Turn.{Turn}
 use Rattle.script.proofs.Ways.{says}
 use Rattle.script.proofs.Describing.{describes-fault, describes}
 

@@ -1,22 +1,10 @@
 -- The ways out of the functions that write an answer. Assumes nothing.
-use Prim.Native.Nat.{ℕ, suc, ◌+◌, ◌≤◌, ◌<◌}
-use mathlib.Core.Bool.{Bool, true, false}
-use mathlib.Core.List.{List, [], ◌∷◌, ◌++◌}
-use mathlib.Core.Path.{◌≡◌, refl, sym, ◌∙◌}
+use Prim.Native.Nat.{ℕ, ◌≤◌}
+use mathlib.Core.List.{List}
+use mathlib.Core.Path.{refl}
 use native.Mathlib.Omega.{arith}
-use lib.Dec.{ltb}
-use lib.ListN.{length, take, set, replicate, drop_of_length-le, length-set, replicate-append-replicate}
-use lib.Seq.{length-take-le, take_all, take-suc-set}
-use Rattle.units.specs.Words.{word_number}
-use Rattle.units.proofs.Tests.{tests}
-use Rattle.list_land.specs.declared.Changed.{Changed}
-use Rattle.list_land.specs.declared.Found.{Found}
-use Rattle.texts.specs.Decimal.{decimal, line}
 use Rattle.texts.specs.inner.Writing.{Wrote}
-use Rattle.texts.proofs.Writing.{wrote_then}
-use Rattle.script.specs.Printed.{question}
-use Rattle.script.specs.inner.Feeding.{Fits, Says}
-use Rattle.script.specs.declared.Stage.{Stage}
+use Rattle.script.specs.inner.Feeding.{Says}
 use Rattle.script.specs.declared.Turn.{Turn}
 
 -- ANSWERS

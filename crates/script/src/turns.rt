@@ -88,7 +88,13 @@ fn describe(land: ListLand, words: &[u64], out: &mut [u8], at: usize) -> Turn
 }
 
 // A request on a land whose arena is lent whole.
-fn ask(land: ListLand, words: &mut [u64], request: Option<Request>, out: &mut [u8], at: usize) -> Turn
+fn ask(
+    land: ListLand,
+    words: &mut [u64],
+    request: Option<Request>,
+    out: &mut [u8],
+    at: usize,
+) -> Turn
     requires { at + 105 ≤ length out.old }
     ensures { Plays (land_turn land words.old request) words.new out.old at out.new result }
 {
@@ -106,7 +112,13 @@ fn ask(land: ListLand, words: &mut [u64], request: Option<Request>, out: &mut [u
 }
 
 // The same on the first words of those that are there.
-fn ask_in(land: ListLand, words: &mut [u64], request: Option<Request>, out: &mut [u8], at: usize) -> Turn
+fn ask_in(
+    land: ListLand,
+    words: &mut [u64],
+    request: Option<Request>,
+    out: &mut [u8],
+    at: usize,
+) -> Turn
     requires { at + 105 ≤ length out.old }
     ensures { Plays (on_first (arena_words land) words.old (λ part. land_turn land part request)) words.new out.old at out.new result }
 {
@@ -180,7 +192,13 @@ impl Stage {
     }
 
     // A request, on words of which an arena may take the first.
-    pub(crate) fn play(self, words: &mut [u64], request: Option<Request>, out: &mut [u8], at: usize) -> Turn
+    pub(crate) fn play(
+        self,
+        words: &mut [u64],
+        request: Option<Request>,
+        out: &mut [u8],
+        at: usize,
+    ) -> Turn
         requires { at + 105 ≤ length out.old }
         ensures { Plays (turn_of self words.old request) words.new out.old at out.new result }
     {

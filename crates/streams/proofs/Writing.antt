@@ -1,17 +1,14 @@
 -- What a writer took of some bytes, part by part. Assumes nothing.
-use Rattle.std.proofs.Common.{◌≡◌, ℕ, ◌-◌, List, [], ◌++◌, length, take, drop, Option, refl, ap, ◌∙◌, append_assoc}
+use Rattle.std.proofs.Common.{◌≡◌, ℕ, ◌-◌, List, ◌++◌, length, take, drop, Option, ap, ◌∙◌, append_assoc}
 use Rattle.std.proofs.lemmas.List.{take_rest, take-append-drop}
 use Rattle.std.specs.Io.KnownBytes.{Appends}
-use Rattle.std.proofs.KnownBytes.{Appends-nil, Appends-trans}
+use Rattle.std.proofs.KnownBytes.{Appends-trans}
 
 -- The bytes in front of those that are left are written.
 pub record Written (old now : Option (List ℕ)) (bytes left : List ℕ) : Type 0 where
   pub done : List ℕ
   pub took : Appends old now done
   pub joined : done ++ left ≡ bytes
-
-pub none-written : (old : Option (List ℕ)) (bytes : List ℕ) → Written old old bytes bytes
-none-written old bytes = record { done = []; took = Appends-nil old; joined = refl }
 
 module _ (old now : Option (List ℕ)) (bytes left : List ℕ) (w : Written old now bytes left) where
   pub more-written : (new : Option (List ℕ)) (n : ℕ) → Appends now new (take n left) → Written old new bytes (take (length left - n) (drop n left))

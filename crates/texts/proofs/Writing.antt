@@ -44,10 +44,6 @@ wrote_then {b = b} {at = at} {t = t} {a = a} {n = n} {t' = t'} {n' = n'} w w' =
       behind = w'.behind ∙ same-behind a b n n' (omega arith) w.behind;
     }
 
-pub wrote-last : (n : ℕ) {w : ℕ} {b : List ℕ} {at : ℕ} {a : List ℕ} {k : ℕ} → Wrote w b at (decimal n ++ (10 ∷ [])) a k → Wrote w b at (line (n ∷ [])) a k
-unfolding line
-wrote-last n p = p
-
 -- numbers with a space behind each
 abbrev pub spaced : List ℕ → List ℕ
 spaced [] = []
