@@ -18,7 +18,7 @@ use units::{Addr, Arena};
 fn words_between(base: Addr, limit: Addr) -> usize
     ensures { result ≡ word_number base.0 limit.0 }
 {
-    if limit.lt(base) {
+    if limit < base {
         return 0;
     }
     limit.word_from(base)
