@@ -63,12 +63,11 @@ fn piece(words: &mut [u64], start: Addr, range: Range, next: Addr) -> Addr
     requires { PieceRoom start.0 (length words.old) range next.0 }
     ensures { (result ≡ piece_head range next) × (words.new ≡ piece_words start.0 words.old range next.0) }
 {
-    let base = range.base;
-    if range.limit <= base {
+    if range.limit <= range.base {
         return next;
     }
     lay(words, start, range, next);
-    base
+    range.base
 }
 
 // Writes an edit of a list with this head, and hands back the head.
@@ -76,10 +75,12 @@ fn store(words: &mut [u64], start: Addr, head: Addr, edit: Edit) -> Addr
     requires { EditRoom start.0 (length words.old) edit }
     ensures { (result ≡ store_head head edit) × (words.new ≡ store_words start.0 words.old edit) }
 {
-    let prev = edit.prev;
-    let low = edit.low;
-    let high = edit.high;
-    let next = edit.next;
+    let Edit {
+        prev,
+        low,
+        high,
+        next,
+    } = edit;
     let upper = piece(words, start, high, next);
     let first = piece(words, start, low, upper);
     if prev.base.is_zero() {
@@ -94,28 +95,28 @@ fn put(words: &mut [u64], start: Addr, chain: Chain, range: Range, place: Join) 
     requires { Putting start.0 (length words.old) chain range place }
     ensures { (result ≡ join_done chain range place) × (words.new ≡ store_words start.0 words.old (join_edit place)) }
 {
-    let prev = place.prev;
-    let low = place.fresh;
-    let next = place.next;
-    let limit = low.limit;
-    let high = Range::new(limit, limit);
+    let Join {
+        prev,
+        fresh,
+        next,
+        joins,
+    } = place;
     let edit = Edit {
         prev,
-        low,
-        high,
+        low: fresh,
+        high: Range::new(fresh.limit, fresh.limit),
         next,
     };
     let bytes = chain.bytes.plus(range.size());
-    let ranges = chain.ranges + 1 - place.joins;
+    let ranges = chain.ranges + 1 - joins;
     let head = store(words, start, chain.head, edit);
-    let after = Chain {
-        head,
-        ranges,
-        bytes,
-    };
     ChainJoined {
-        chain: after,
-        range: low,
+        chain: Chain {
+            head,
+            ranges,
+            bytes,
+        },
+        range: fresh,
     }
 }
 
@@ -172,9 +173,7 @@ pub fn cut_at(arena: Arena, words: &mut [u64], chain: Chain, spot: Spot, part: R
     requires { Holding arena words.old chain spot part }
     ensures { (result ≡ cut_chain (met_of arena words.old chain) part) × (words.new ≡ cut_words (met_of arena words.old chain) part arena.base.0 words.old) }
 {
-    let prev = spot.prev;
-    let here = spot.here;
-    let next = spot.next;
+    let Spot { prev, here, next } = spot;
     let low = Range::new(here.base, part.base);
     let high = Range::new(part.limit, here.limit);
     let edit = Edit {

@@ -23,8 +23,7 @@ fn place_before(prev: Range, fresh: Range, joins: u64, above: Spot) -> Option<Jo
     requires { joins ≤ 1 }
     ensures { result ≡ join_of prev fresh joins above }
 {
-    let up = above.here;
-    let next = above.next;
+    let Spot { here: up, next, .. } = above;
     let base = up.base;
     if base.is_zero() {
         return free(prev, fresh, next, joins);
@@ -65,8 +64,7 @@ pub(crate) fn place(arena: Arena, words: &[u64], range: Range, spot: Spot) -> Op
     requires { Placing arena words.now range spot }
     ensures { result ≡ place_of arena words.now range spot }
 {
-    let prev = spot.prev;
-    let here = spot.here;
+    let Spot { prev, here, .. } = spot;
     if here.limit == range.base {
         let above = following(arena, words, spot);
         let fresh = Range::new(here.base, range.limit);

@@ -75,9 +75,12 @@ impl ListLand {
     pub fn arena(self) -> Arena
         ensures { result ≡ arena_in self }
     {
-        let base = self.base;
-        let limit = self.limit;
-        let align = self.align;
+        let ListLand {
+            base,
+            limit,
+            align,
+            ..
+        } = self;
         Arena { base, limit, align }
     }
 
@@ -101,12 +104,10 @@ impl ListLand {
     pub fn chain(self) -> Chain
         ensures { result ≡ chain_in self }
     {
-        let head = self.head;
-        let bytes = self.bytes;
         Chain {
-            head,
+            head: self.head,
             ranges: self.ranges,
-            bytes,
+            bytes: self.bytes,
         }
     }
 
@@ -131,25 +132,23 @@ impl ListLand {
         self.set_up(words)?;
         self.water.check(self.bytes)?;
         let arena = self.walk_arena();
-        list_words::survey(arena, words, self.chain(), arena.aim_of(aim))
+        // Taken apart and made anew: handed on as it is, its fields would be set in every turn of the walk.
+        let spot = list_words::survey(arena, words, self.chain(), arena.aim_of(aim))?;
+        Ok(spot)
     }
 
     // The next handle of every accepted call, in which the number of free bytes is noted.
     pub fn close(self, head: Addr, ranges: u64, bytes: Size) -> ListLand
         ensures { result ≡ closed_with self head ranges bytes }
     {
-        let base = self.base;
-        let limit = self.limit;
-        let align = self.align;
-        let water = self.water.noted(bytes);
         ListLand {
-            base,
-            limit,
-            align,
+            base: self.base,
+            limit: self.limit,
+            align: self.align,
             head,
             ranges,
             bytes,
-            water,
+            water: self.water.noted(bytes),
         }
     }
 

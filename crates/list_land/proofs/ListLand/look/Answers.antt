@@ -1,4 +1,5 @@
 -- `ListLand::look` meets its contract: the set-up, low water, then the one walk. Assumes nothing.
+use mathlib.Core.Path.{sym, ◌∙◌}
 use Rattle.std.proofs.lemmas.Result.{err_from_is_err_and}
 use Rattle.model.proofs.lands.Ways.{good-align, good-positive, look-bad, look-low}
 use Rattle.list_land.proofs.Land.{list_land}
@@ -24,7 +25,16 @@ aim_of-requires c = search (good-positive list_land, c.in_ok-set_up.was)
 pub survey-requires : goal.survey-requires
 survey-requires c = search (good-ready, c.in_ok-set_up.was)
 
+pub returns-in_err-spot : goal.returns-in_err-spot
+returns-in_err-spot c =
+    let p = err_from_is_err_and c.from_residual-in_err-spot.result c.from_residual-in_err-spot.ensures.1 in
+    rw (p.1, p.2)
+    (sym c.in_err-spot.was
+    ∙ look-surveyed _ _ _ _ c.set_up.ensures c.in_ok-set_up.was _ c.walk_arena-arena.ensures _ c.check.ensures
+    c.in_ok-check.was _ c.aim_of.ensures _ c.chain.ensures _ c.survey.ensures)
+
 pub returns : goal.returns
 returns c =
-    look-surveyed _ _ _ _ c.set_up.ensures c.in_ok-set_up.was _ c.walk_arena-arena.ensures _ c.check.ensures
+    sym c.in_ok-spot.was
+    ∙ look-surveyed _ _ _ _ c.set_up.ensures c.in_ok-set_up.was _ c.walk_arena-arena.ensures _ c.check.ensures
     c.in_ok-check.was _ c.aim_of.ensures _ c.chain.ensures _ c.survey.ensures
