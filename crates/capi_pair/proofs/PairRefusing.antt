@@ -3,7 +3,7 @@ use Prim.Native.Nat.{ℕ}
 use mathlib.Core.List.{List}
 use mathlib.Core.Path.{◌≡◌, refl, ap, ◌∙◌}
 use Rattle.units.proofs.Tests.{by}
-use Rattle.std.specs.Prelude.{Option, Some, None, Result, Ok, Err}
+use Rattle.std.specs.Prelude.{Option, Some, None, Result}
 use Rattle.units.specs.Rules.{refusal_number}
 use Rattle.units.specs.Words.{range_of}
 use Rattle.units.specs.declared.refusals.Refusal.{Refusal}

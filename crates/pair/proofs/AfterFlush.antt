@@ -2,7 +2,7 @@
 use Prim.Native.Nat.{ℕ}
 use mathlib.Core.List.{List}
 use mathlib.Core.Path.{◌≡◌}
-use Rattle.std.specs.Prelude.{Result, Ok, Err}
+use Rattle.std.specs.Prelude.{Ok}
 use Rattle.model.specs.Flushing.{Flushes}
 use Rattle.list_words.specs.Laying.{lay}
 use Rattle.list_words.proofs.Laid.{lay-laid}

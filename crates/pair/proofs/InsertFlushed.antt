@@ -6,7 +6,7 @@ use mathlib.Core.Path.{◌≡◌, sym, ap, ap₂, subst, ◌∙◌}
 use native.Mathlib.Omega.{arith}
 use lib.Dec.{leb}
 use lib.ListN.{length}
-use Rattle.std.specs.Prelude.{Result, Ok, Err}
+use Rattle.std.specs.Prelude.{Ok}
 use Rattle.units.specs.declared.Range as units
 use Rattle.units.proofs.Tests.{by, or_left, or_right, and_left}
 use Rattle.model.specs.Marks.{Range, rng, struct, marks_of}

@@ -7,7 +7,6 @@ use native.Mathlib.Omega.{arith}
 use lib.Dec.{ltb, eqb}
 use borrow.Author.Tests.{ne_eqb, not-true, not-false}
 use Rattle.std.specs.Prelude.{Option as Maybe, Some, None}
-use Rattle.std.specs.Prelude.{Result, Ok, Err}
 use Rattle.units.specs.declared.Range as units
 use Rattle.units.specs.declared.Size.{Size}
 use Rattle.units.specs.declared.Which.{Which}

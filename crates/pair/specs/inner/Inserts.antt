@@ -1,6 +1,6 @@
 -- What the inner functions of insert give. Assumes nothing.
 use Rattle.std.specs.Prelude.{ℕ, ◌≤◌, ◌<◌, Bool, true, false, cond, List, ◌≡◌, leb, length}
-use Rattle.std.specs.Prelude.{Result, Ok, Err}
+use Rattle.std.specs.Prelude.{Ok}
 use Rattle.units.specs.declared.Range as units
 use Rattle.model.specs.Marks.{Range, struct, total}
 use Rattle.model.specs.Calls.{good_range_in}
