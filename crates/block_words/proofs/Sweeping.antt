@@ -1,6 +1,6 @@
 -- A sweep over the pairs judges what the definition says: its sign tells whether the words ascend, where no word has its top bit;
 -- and the loop of `judge`. Assumes nothing.
-use Rattle.std.proofs.Common.{◌≡◌, ℕ, ◌+◌, ◌-◌, ◌/◌, ◌<◌, ◌≤◌, Bool, true, false, ◌&&◌, eqb, List, [], ◌∷◌, length, sym, refl, ap, ◌∙◌, ap₂, arith, leb-false, leb-true}
+use Rattle.std.proofs.Common.{◌≡◌, ℕ, ◌+◌, ◌*◌, ◌/◌, ◌<◌, ◌≤◌, Bool, true, false, ◌&&◌, eqb, List, [], ◌∷◌, length, get_or, sym, refl, ap, ◌∙◌, ap₂, arith, leb-false, leb-true}
 use mathlib.Core.Bool.{and-true}
 use lib.Bits.{bit_and, bit_or, and_le_l, or_lt}
 use borrow.Author.Tests.{lt-leb}
@@ -11,7 +11,7 @@ use Rattle.units.proofs.Tests.{by, conj}
 use Rattle.units.proofs.Facts.{GoodArena, arena-facts}
 use Rattle.model.specs.Marks.{Range, size}
 use Rattle.block_words.specs.Words.{pairs}
-use Rattle.block_words.specs.inner.Tallies.{behind, Ready, below, top, start_of, swept_by, swept_at, swept, verdict_of, sound_pairs}
+use Rattle.block_words.specs.inner.Tallies.{behind, Ready, below, top, start_of, swept_by, swept, verdict_of, sound_pairs}
 use Rattle.block_words.specs.declared.sweep.Sweep.{Sweep}
 use Rattle.block_words.proofs.Ascending.{follows, sound, sound-range, sound-off, sound-on, sound-whole}
 use Rattle.block_words.proofs.Pairs.{pairs-at, pairs_end, all-behind}
@@ -128,34 +128,27 @@ module _ (arena : Arena) (bytes : Size) where
         (record { room = omega arith; low = omega arith; small = omega arith; word = omega arith; sign = refl })
         ∙ sound-whole arena bytes g (pairs ws n)
 
--- a sweep along the words: going on from here comes to the same as from the start
-pub record Going (a : Arena) (ws : List ℕ) (n : ℕ) (u : Sweep) : Type 0 where
+-- a sweep along the words: going on from pair i comes to the same as from the start
+pub record Going (a : Arena) (ws : List ℕ) (n i : ℕ) (u : Sweep) : Type 0 where
   pub fits : n ≤ length ws / 2
-  pub upto : u.next ≤ n
-  pub whole : swept u (behind ws n u.next) ≡ swept (start_of a) (pairs ws n)
+  pub upto : i ≤ n
+  pub whole : swept u (behind ws n i) ≡ swept (start_of a) (pairs ws n)
 
 module _ (a : Arena) (ws : List ℕ) (n : ℕ) where
-  pub going_start : n ≤ length ws / 2 → (s : Sweep) → s ≡ start_of a → Going a ws n s
+  pub going_start : n ≤ length ws / 2 → (s : Sweep) → s ≡ start_of a → Going a ws n 0 s
   going_start k s e = rw e (record { fits = k; upto = omega arith; whole = ap (swept (start_of a)) (all-behind ws n) })
 
-  module _ (u : Sweep) (j : Going a ws n u) where
-    pub going-inside : u.next < n → u.next < length ws / 2
-    going-inside k = omega (arith, j.fits)
+  module _ (i : ℕ) (u : Sweep) (j : Going a ws n i u) where
+    pub going-again : i < n → (v : Sweep) → v ≡ swept_by u (get_or ws (2 * i) 0) (get_or ws (2 * i + 1) 0) → Going a ws n (i + 1) v
+    going-again k v e =
+        let p = ap (swept u) (pairs-at ws n i k j.fits) in
+        rw e (record { fits = j.fits; upto = omega arith; whole = sym p ∙ j.whole })
 
-    module _ (k : u.next < n) (v : Sweep) (e : v ≡ swept_at u ws) where
-      pub going-again : Going a ws n v
-      going-again =
-          let p = ap (swept u) (pairs-at ws n u.next k j.fits) in
-          rw e (record { fits = j.fits; upto = omega arith; whole = sym p ∙ j.whole })
-
-      pub going_less : n - v.next < n - u.next
-      going_less = let q : v.next ≡ u.next + 1 = ap (λ (x : Sweep). x.next) e in omega arith
-
-    pub going_end : Ready a → n ≤ u.next → (bytes : Size) (r : Checked) → r ≡ soundness_of (verdict_of a bytes u) →
+    pub going_end : Ready a → n ≤ i → (bytes : Size) (r : Checked) → r ≡ soundness_of (verdict_of a bytes u) →
         r ≡ soundness_of (sound_pairs a ws n bytes)
     going_end ready done bytes r e =
         let g = arena-facts a.base.0 a.limit.0 a.align.0 ready in
-        let last = sym (ap (swept u) (pairs_end ws n u.next done)) ∙ j.whole in
+        let last = sym (ap (swept u) (pairs_end ws n i done)) ∙ j.whole in
         e ∙ ap (λ (x : Sweep). soundness_of (verdict_of a bytes x)) last ∙ ap soundness_of (swept-whole a bytes g ws n)
 
-pub ruleset goings = (going_start, going-inside, going-again, going_less, going_end)
+pub ruleset goings = (going_start, going-again, going_end)

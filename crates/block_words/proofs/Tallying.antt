@@ -34,17 +34,17 @@ module _ (arena : Arena) (g : Ready arena) where
   start-above = (facts arena g).above
 
   pub start-made : (n : Size) → n.0 ≡ 1 → (p : Addr) → p.0 ≡ arena.base.0 - n.0 → (x : ℕ) → x ≡ p.0 →
-      record { next = 0; past = x; rising = 18446744073709551615; bits = 0; bytes = 0 } ≡ start_of arena
+      record { past = x; rising = 18446744073709551615; bits = 0; bytes = 0 } ≡ start_of arena
   start-made n en p ep x ex =
       let f : x ≡ arena.base.0 - 1 = ex ∙ ep ∙ ap (λ (y : ℕ). arena.base.0 - y) en in
-      λ i. record { next = 0; past = f i; rising = 18446744073709551615; bits = 0; bytes = 0 }
+      λ i. record { past = f i; rising = 18446744073709551615; bits = 0; bytes = 0 }
 
 -- one pair further on
 pub sweep-on : (s : Sweep) (b l g z y : ℕ) → g ≡ below s.past b → z ≡ below b l → y ≡ below s.bytes z →
-    record { next = s.next + 1; past = l; rising = bit_and s.rising (bit_and g z); bits = bit_or s.bits (bit_or b l); bytes = y } ≡ swept_by s b l
+    record { past = l; rising = bit_and s.rising (bit_and g z); bits = bit_or s.bits (bit_or b l); bytes = y } ≡ swept_by s b l
 sweep-on s b l g z y eg ez ey =
     let f : y ≡ below s.bytes (below b l) = ey ∙ ap (below s.bytes) ez in
-    λ i. record { next = s.next + 1; past = l; rising = bit_and s.rising (bit_and (eg i) (ez i)); bits = bit_or s.bits (bit_or b l); bytes = f i }
+    λ i. record { past = l; rising = bit_and s.rising (bit_and (eg i) (ez i)); bits = bit_or s.bits (bit_or b l); bytes = f i }
 
 -- the verdict
 eqb-sym : (x y : ℕ) → eqb x y ≡ eqb y x

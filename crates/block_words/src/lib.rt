@@ -38,11 +38,9 @@ fn is_zero(words: &[u64], n: usize) -> bool
     ensures { result ≡ all_zero (drop (2 * n) words.now) }
 {
     let end = words.len() / 2 * 2;
-    let mut i = 2 * n;
     let mut bits: u64 = 0;
-    while i < end {
-        bits = bits | words[i];
-        i += 1;
+    for word in &words[2 * n..end] {
+        bits |= *word;
     }
     bits == 0
 }

@@ -67,10 +67,7 @@ fn first(words: &[u64], n: usize, size: Size) -> Entry
     requires { Rising words.now n }
     ensures { result ≡ entry_of (Aim.Find Which.First size) (pairs words.now n) }
 {
-    let mut i: usize = 0;
-    while i < n {
-        let number = i;
-        i += 1;
+    for number in 0..n {
         let here = crate::pair_at(words, number);
         if size <= here.size() {
             return Entry { number, here };
@@ -84,13 +81,11 @@ fn last(words: &[u64], n: usize, size: Size) -> Entry
     requires { Rising words.now n }
     ensures { result ≡ entry_of (Aim.Find Which.Last size) (pairs words.now n) }
 {
-    let mut i = n;
-    while 0 < i {
-        i -= 1;
-        let range = crate::pair_at(words, i);
+    for number in (0..n).rev() {
+        let range = crate::pair_at(words, number);
         if size <= range.size() {
             return Entry {
-                number: i,
+                number,
                 here: range,
             };
         }
@@ -115,15 +110,11 @@ fn largest(words: &[u64], n: usize, size: Size) -> Entry
 {
     let mut most = less(size);
     let mut number = n;
-    let mut i: usize = 0;
-    while i < n {
-        let at = i;
-        i += 1;
-        let here = crate::pair_at(words, at);
-        let long = here.size();
+    for i in 0..n {
+        let long = crate::pair_at(words, i).size();
         if most < long {
             most = long;
-            number = at;
+            number = i;
         }
     }
     entry_at(words, n, number)

@@ -2,15 +2,14 @@
 // exit, so that the compiler takes several pairs a turn.
 ghost use Rattle.std.specs.Prelude.{◌≡◌, ◌/◌, ◌<◌, ◌≤◌, length};
 ghost use Rattle.units.specs.inner.Parts.{soundness_of};
-ghost use Rattle.block_words.specs.inner.Tallies.{Ready, below, start_of, swept_at, verdict_of, sound_pairs};
+ghost use Rattle.block_words.specs.inner.Tallies.{Ready, below, start_of, swept_by, verdict_of, sound_pairs};
 
 use units::{Addr, Arena, Refusal, Size};
 
-// Where a sweep stands: the number of pairs met, the limit of the last, a number whose top bit is set exactly if all words
+// What a sweep keeps of the pairs met: the limit of the last, a number whose top bit is set exactly if all words
 // ascend, all words OR-ed, and their bytes. The numbers are modulo 2^64.
 #[derive(Clone, Copy)]
 pub struct Sweep {
-    pub next: usize,
     pub past: u64,
     pub rising: u64,
     pub bits: u64,
@@ -32,7 +31,6 @@ impl Sweep {
     {
         let past = arena.base.minus(Size::new(1)).number();
         Sweep {
-            next: 0,
             past,
             rising: 18446744073709551615,
             bits: 0,
@@ -41,17 +39,12 @@ impl Sweep {
     }
 
     // One pair further on.
-    fn on(self, words: &[u64]) -> Sweep
-        requires { self.next < length words.now / 2 }
-        ensures { result ≡ swept_at self words.now }
+    fn on(self, base: u64, limit: u64) -> Sweep
+        ensures { result ≡ swept_by self base limit }
     {
-        let i = self.next;
-        let base = words[2 * i];
-        let limit = words[2 * i + 1];
         let gap = lower(self.past, base);
         let size = lower(base, limit);
         Sweep {
-            next: i + 1,
             past: limit,
             rising: self.rising & (gap & size),
             bits: self.bits | (base | limit),
@@ -92,8 +85,8 @@ pub(crate) fn judge(arena: Arena, words: &[u64], n: usize, bytes: Size) -> Resul
     ensures { result ≡ soundness_of (sound_pairs arena words.now n bytes) }
 {
     let mut sweep = Sweep::start(arena);
-    while sweep.next < n {
-        sweep = sweep.on(words);
+    for i in 0..n {
+        sweep = sweep.on(words[2 * i], words[2 * i + 1]);
     }
     sweep.verdict(arena, bytes)
 }

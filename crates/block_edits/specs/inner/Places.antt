@@ -1,5 +1,5 @@
 -- The place of a range in a sorted table: contracts of inner functions. Assumes nothing.
-use Rattle.std.specs.Prelude.{ℕ, ◌+◌, ◌-◌, ◌*◌, ◌≤◌, ◌<◌, Bool, false, cond, List, [], ◌∷◌, ◌⊎◌, ◌≡◌, leb, ltb, eqb, get_or, Result, Ok, Err}
+use Rattle.std.specs.Prelude.{ℕ, ◌+◌, ◌-◌, ◌*◌, ◌≤◌, ◌<◌, cond, List, [], ◌∷◌, ◌⊎◌, ◌≡◌, leb, ltb, eqb, get_or, Option, None, Some, Result, Ok, Err}
 use Rattle.units.specs.Words.{range_of}
 use Rattle.units.specs.inner.Parts.{one}
 use Rattle.units.specs.declared.Range as units
@@ -13,17 +13,17 @@ use Rattle.block_edits.specs.declared.cut.Left.{Left}
 use Rattle.block_edits.specs.declared.TableEdited.{TableEdited}
 use Rattle.block_edits.specs.declared.join.Fit.{Fit}
 
-abbrev pub fit : ℕ → ℕ → ℕ → Bool → Fit
-fit b l k o = record { joined = range_of b l; joins = k; overlaps = o }
+abbrev pub fit : ℕ → ℕ → ℕ → Fit
+fit b l k = record { joined = range_of b l; joins = k }
 
--- [b, l), which joins k ranges below it, before the ranges above it.
-abbrev pub fit_above : ℕ → ℕ → ℕ → List Range → Fit
-fit_above b l k [] = fit b l k false
-fit_above b l k (r ∷ rs) = cond (eqb r.base l) (fit b r.limit (k + 1) false) (fit b l k (ltb r.base l))
+-- [b, l), which joins k ranges below it, before the ranges above it: none where it overlaps one.
+abbrev pub fit_above : ℕ → ℕ → ℕ → List Range → Option Fit
+fit_above b l k [] = Some (fit b l k)
+fit_above b l k (r ∷ rs) = cond (eqb r.base l) (Some (fit b r.limit (k + 1))) (cond (ltb r.base l) None (Some (fit b l k)))
 
 -- [b, l) at the ranges from the first on that reaches b.
-abbrev pub fit_at : ℕ → ℕ → List Range → Fit
-fit_at b l [] = fit b l 0 false
+abbrev pub fit_at : ℕ → ℕ → List Range → Option Fit
+fit_at b l [] = Some (fit b l 0)
 fit_at b l (r ∷ rs) = cond (eqb r.limit b) (fit_above r.base l 1 rs) (fit_above b l 0 (r ∷ rs))
 
 -- k of n pairs, from number i on, can be replaced by one.

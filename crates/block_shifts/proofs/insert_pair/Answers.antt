@@ -1,12 +1,6 @@
 -- `insert_pair` meets its contract. Assumes nothing.
-use Rattle.block_shifts.proofs.Shifting.{raise-start, raise-next, raise-done}
+use Rattle.block_shifts.proofs.Shifting.{raised}
 use Rattle.block_shifts.proofs.insert_pair.Goals as goal
 
-pub loop-k-init : goal.loop-k-init
-loop-k-init c = search raise-start
-
-pub loop-k-preserved : goal.loop-k-preserved
-loop-k-preserved c = search raise-next
-
 pub returns : goal.returns
-returns c = search raise-done
+returns c = raised _ _ _ c.requires.tidy _ _ _ c.requires.i_le_n c.requires.n_bound c.copy_within.ensures.after c.put.ensures

@@ -2,8 +2,8 @@
 use Rattle.block_words.proofs.Zeros.{zero-ways}
 use Rattle.block_words.proofs.is_zero.Goals as goal
 
-pub loop-i-init : goal.loop-i-init
-loop-i-init c = search zero-ways
+pub loop-word-init : goal.loop-word-init
+loop-word-init c = search zero-ways
 
-pub loop-i-preserved : goal.loop-i-preserved
-loop-i-preserved c = search zero-ways
+pub loop-word-preserved : goal.loop-word-preserved
+loop-word-preserved c = search zero-ways

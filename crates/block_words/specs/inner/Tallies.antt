@@ -30,20 +30,16 @@ top x = nat_le 9223372036854775808 x
 
 -- Before the first pair, as if one had ended right below the arena.
 abbrev pub start_of : Arena → Sweep
-start_of a = record { next = 0; past = a.base.0 - 1; rising = 18446744073709551615; bits = 0; bytes = 0 }
+start_of a = record { past = a.base.0 - 1; rising = 18446744073709551615; bits = 0; bytes = 0 }
 
--- A sweep one pair further on, by the pair's words; at its place in the words; and over ranges.
+-- A sweep one pair further on, by the pair's words; and over ranges.
 abbrev pub swept_by : Sweep → ℕ → ℕ → Sweep
 swept_by s b l = record {
-  next = s.next + 1;
   past = l;
   rising = bit_and s.rising (bit_and (below s.past b) (below b l));
   bits = bit_or s.bits (bit_or b l);
   bytes = below s.bytes (below b l);
 }
-
-abbrev pub swept_at : Sweep → List ℕ → Sweep
-swept_at s ws = swept_by s (slice_index ws (2 * s.next)) (slice_index ws (2 * s.next + 1))
 
 abbrev pub swept : Sweep → List marks.Range → Sweep
 swept s [] = s

@@ -2,8 +2,8 @@
 use Rattle.block_words.proofs.Sweeping.{goings}
 use Rattle.block_words.proofs.sweep.judge.Goals as goal
 
-pub loop-sweep-preserved : goal.loop-sweep-preserved
-loop-sweep-preserved c = search goings
+pub loop-i-preserved : goal.loop-i-preserved
+loop-i-preserved c = search goings
 
 pub returns : goal.returns
 returns c = search goings
