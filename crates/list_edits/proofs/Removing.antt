@@ -11,6 +11,7 @@ use Rattle.units.specs.declared.Range as units
 use Rattle.units.specs.declared.aims.Aim.{Aim}
 use Rattle.units.specs.declared.rules.Arena.{Arena}
 use Rattle.units.proofs.Facts.{GoodRange, range-facts}
+use Rattle.units.proofs.Orders.{told-lt, told-ge}
 use Rattle.model.specs.inner.Lists.{holds, holder}
 use Rattle.model.specs.Marks.{Range, struct}
 use Rattle.model.proofs.Places.{Before, apart-rest, holds-below, holder-below, holder-here, holds-above}
@@ -22,8 +23,6 @@ use Rattle.list_edits.specs.inner.Chains.{met_of, Held, may_ask, Holding, cut_ch
 use Rattle.units.specs.declared.refusals.Refusal.{Refusal}
 use Rattle.std.specs.Prelude.{Result, Ok, Err}
 use Rattle.std.specs.Ordering.{is_lt, nat_cmp}
-use Rattle.std.proofs.lemmas.Map.Keys.{ge_from_not_lt}
-use Rattle.list_words.proofs.Stepping.{lt_from_is_lt}
 use Rattle.list_edits.specs.declared.ChainJoined.{ChainJoined}
 use Rattle.list_edits.proofs.Sound.{Fine, fine}
 
@@ -85,14 +84,14 @@ module _ (a : Arena) (ws : List ℕ) (c : Chain) (y : units.Range) (s : Spot) (k
         let p = reached.at in
         let q = reached.at-range in
         let pr = apart-rest a.base.0 a.limit.0 p.front q p.rest (rw p.split at fit.apart) in
-        let v : b < q.base = rw here-base at (lt_from_is_lt b s.here.base.0 (sym eu ∙ f)) in
+        let v : b < q.base = rw here-base at (told-lt b s.here.base.0 u eu f) in
         refused (rw p.split (holds-below b l p.front (q ∷ p.rest) reached.below
         ∙ rw (lt-leb q.base b v) (holds-above b l (suc q.limit) a.limit.0 p.rest (omega arith) pr.3)))
 
     -- it holds the request
     module _ (u : Bool) (eu : u ≡ is_lt (nat_cmp b s.here.base.0)) (f : u ≡ false) where
       low : reached.at-range.base ≤ b
-      low = rw here-base at (ge_from_not_lt b s.here.base.0 (sym eu ∙ f))
+      low = rw here-base at (told-ge b s.here.base.0 u eu f)
 
       held-here : (holds b l met ≡ true) × (holder b l met ≡ reached.at-range)
       held-here =
@@ -106,7 +105,7 @@ module _ (a : Arena) (ws : List ℕ) (c : Chain) (y : units.Range) (s : Spot) (k
       out-holding = record {
         aim = Aim.Reach y.limit;
         held = k;
-        low = ge_from_not_lt b s.here.base.0 (sym eu ∙ f);
+        low = told-ge b s.here.base.0 u eu f;
         proper = rules.order;
         high = rw reached.at.here reached.reaches;
         base_aligned = rules.base_aligned;
