@@ -1,4 +1,3 @@
-pub mod Orders
 pub mod Pairs
 pub mod Filling
 pub mod Canonical

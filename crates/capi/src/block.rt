@@ -8,9 +8,8 @@ ghost use Rattle.capi.specs.Modes.{unknown_mode};
 ghost use Rattle.capi.specs.BlockFinds.{found_by};
 
 use crate::modes;
-use crate::modes::Given;
 use block_land::{BlockLand, Changed, Found, Opened};
-use units::{Addr, Aim, Align, Range, Size};
+use units::{Addr, Aim, Align, Range, Size, Which};
 
 pub fn lg_block_open(base: u64, limit: u64, align: u64, nodes: &mut [u64]) -> Opened
     ensures { (result ≡ opened_of base limit align nodes.old) × (nodes.new ≡ opened_words base limit align nodes.old) }
@@ -36,19 +35,26 @@ pub fn refuse(land: BlockLand, nodes: &[u64]) -> Found
 {
     Found {
         land,
-        answer: modes::refusal_after(land.look(nodes, Aim::Nothing).number()),
+        answer: modes::refusal_after(land.look(nodes, Aim::Nothing)).number(),
         range: Range::none(),
         old: Range::none(),
+    }
+}
+
+// The find that `which` names, with its size and its mode as numbers.
+pub fn find(land: BlockLand, nodes: &mut [u64], which: Which, size: u64, mode: u64) -> Found
+    ensures { (result ≡ found_of (found_by land nodes.old which size mode)) × (nodes.new ≡ (found_by land nodes.old which size mode).words) }
+{
+    match modes::mode_of(mode) {
+        Some(mode) => land.find(nodes, which, Size::new(size), mode),
+        None => refuse(land, nodes),
     }
 }
 
 pub fn lg_block_find_first(land: BlockLand, nodes: &mut [u64], size: u64, mode: u64) -> Found
     ensures { (result ≡ found_of (found_by land nodes.old Which.First size mode)) × (nodes.new ≡ (found_by land nodes.old Which.First size mode).words) }
 {
-    match modes::mode_of(mode) {
-        Given::Mode(mode) => land.find_first(nodes, Size::new(size), mode),
-        Given::Unknown => refuse(land, nodes),
-    }
+    find(land, nodes, Which::First, size, mode)
 }
 
 pub fn lg_block_walk(land: BlockLand, nodes: &[u64], from: u64) -> Changed

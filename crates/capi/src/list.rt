@@ -8,9 +8,8 @@ ghost use Rattle.capi.specs.Modes.{unknown_mode};
 ghost use Rattle.capi.specs.ListFinds.{found_by};
 
 use crate::modes;
-use crate::modes::Given;
 use list_land::{Changed, Found, ListLand, Opened};
-use units::{Addr, Aim, Align, Range, Size};
+use units::{Addr, Aim, Align, Range, Size, Which};
 
 pub fn lg_list_open(base: u64, limit: u64, align: u64, words: &[u64]) -> Opened
     ensures { result ≡ opened_of base limit align words.now }
@@ -36,19 +35,26 @@ pub fn refuse(land: ListLand, words: &[u64]) -> Found
 {
     Found {
         land,
-        answer: modes::refusal_after(land.look(words, Aim::Nothing).number()),
+        answer: modes::refusal_after(land.look(words, Aim::Nothing)).number(),
         range: Range::none(),
         old: Range::none(),
+    }
+}
+
+// The find that `which` names, with its size and its mode as numbers.
+pub fn find(land: ListLand, words: &mut [u64], which: Which, size: u64, mode: u64) -> Found
+    ensures { (result ≡ found_of (found_by land words.old which size mode)) × (words.new ≡ (found_by land words.old which size mode).words) }
+{
+    match modes::mode_of(mode) {
+        Some(mode) => land.find(words, which, Size::new(size), mode),
+        None => refuse(land, words),
     }
 }
 
 pub fn lg_list_find_first(land: ListLand, words: &mut [u64], size: u64, mode: u64) -> Found
     ensures { (result ≡ found_of (found_by land words.old Which.First size mode)) × (words.new ≡ (found_by land words.old Which.First size mode).words) }
 {
-    match modes::mode_of(mode) {
-        Given::Mode(mode) => land.find_first(words, Size::new(size), mode),
-        Given::Unknown => refuse(land, words),
-    }
+    find(land, words, Which::First, size, mode)
 }
 
 pub fn lg_list_walk(land: ListLand, words: &[u64], from: u64) -> Changed

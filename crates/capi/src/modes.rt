@@ -2,31 +2,27 @@
 ghost use Rattle.std.specs.Prelude.{◌≡◌};
 ghost use Rattle.capi.specs.Modes.{given_mode, refusal_after};
 
-use units::Mode;
+use units::{Mode, Refusal};
 
-// A mode, or a number that is none.
-#[derive(Clone, Copy)]
-pub enum Given {
-    Mode(Mode),
-    Unknown,
-}
-
-// 0 none, 1 low, 2 high, 3 entire.
-pub fn mode_of(n: u64) -> Given
+// 0 none, 1 low, 2 high, 3 entire; any other number is no mode.
+pub fn mode_of(n: u64) -> Option<Mode>
     ensures { result ≡ given_mode n }
 {
     match n {
-        0 => Given::Mode(Mode::None),
-        1 => Given::Mode(Mode::Low),
-        2 => Given::Mode(Mode::High),
-        3 => Given::Mode(Mode::Entire),
-        _ => Given::Unknown,
+        0 => Some(Mode::None),
+        1 => Some(Mode::Low),
+        2 => Some(Mode::High),
+        3 => Some(Mode::Entire),
+        _ => None,
     }
 }
 
-// The number that refuses a find whose mode is not known, from that of what the call found before: that one, or 4.
-pub fn refusal_after(number: u64) -> u64
-    ensures { result ≡ refusal_after number }
+// How a find whose mode is not known is refused, by what a call finds before it looks at its request: as that was, or for the mode.
+pub fn refusal_after<S: Drop>(look: Result<S, Refusal>) -> Refusal
+    ensures { result ≡ refusal_after look }
 {
-    if number == 0 { 4 } else { number }
+    match look {
+        Ok(_) => Refusal::Request,
+        Err(refusal) => refusal,
+    }
 }

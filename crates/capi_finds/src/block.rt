@@ -5,9 +5,7 @@ ghost use Rattle.block_land.specs.Calls.{found_of};
 ghost use Rattle.capi.specs.BlockFinds.{found_by};
 
 use block_land::{BlockLand, Found};
-use capi::modes;
-use capi::modes::Given;
-use units::Size;
+use units::Which;
 
 #[unsafe(no_mangle)]
 pub extern "C" fn lg_block_find_last(
@@ -18,10 +16,7 @@ pub extern "C" fn lg_block_find_last(
 ) -> Found
     ensures { (result ≡ found_of (found_by land nodes.old Which.Last size mode)) × (nodes.new ≡ (found_by land nodes.old Which.Last size mode).words) }
 {
-    match modes::mode_of(mode) {
-        Given::Mode(mode) => land.find_last(nodes, Size::new(size), mode),
-        Given::Unknown => capi::block::refuse(land, nodes),
-    }
+    capi::block::find(land, nodes, Which::Last, size, mode)
 }
 
 #[unsafe(no_mangle)]
@@ -33,8 +28,5 @@ pub extern "C" fn lg_block_find_largest(
 ) -> Found
     ensures { (result ≡ found_of (found_by land nodes.old Which.Largest size mode)) × (nodes.new ≡ (found_by land nodes.old Which.Largest size mode).words) }
 {
-    match modes::mode_of(mode) {
-        Given::Mode(mode) => land.find_largest(nodes, Size::new(size), mode),
-        Given::Unknown => capi::block::refuse(land, nodes),
-    }
+    capi::block::find(land, nodes, Which::Largest, size, mode)
 }

@@ -4,10 +4,8 @@ ghost use Rattle.units.specs.declared.Which.{Which};
 ghost use Rattle.list_land.specs.Calls.{found_of};
 ghost use Rattle.capi.specs.ListFinds.{found_by};
 
-use capi::modes;
-use capi::modes::Given;
 use list_land::{Found, ListLand};
-use units::Size;
+use units::Which;
 
 #[unsafe(no_mangle)]
 pub extern "C" fn lg_list_find_last(
@@ -18,10 +16,7 @@ pub extern "C" fn lg_list_find_last(
 ) -> Found
     ensures { (result ≡ found_of (found_by land words.old Which.Last size mode)) × (words.new ≡ (found_by land words.old Which.Last size mode).words) }
 {
-    match modes::mode_of(mode) {
-        Given::Mode(mode) => land.find_last(words, Size::new(size), mode),
-        Given::Unknown => capi::list::refuse(land, words),
-    }
+    capi::list::find(land, words, Which::Last, size, mode)
 }
 
 #[unsafe(no_mangle)]
@@ -33,8 +28,5 @@ pub extern "C" fn lg_list_find_largest(
 ) -> Found
     ensures { (result ≡ found_of (found_by land words.old Which.Largest size mode)) × (words.new ≡ (found_by land words.old Which.Largest size mode).words) }
 {
-    match modes::mode_of(mode) {
-        Given::Mode(mode) => land.find_largest(words, Size::new(size), mode),
-        Given::Unknown => capi::list::refuse(land, words),
-    }
+    capi::list::find(land, words, Which::Largest, size, mode)
 }

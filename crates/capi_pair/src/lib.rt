@@ -8,12 +8,11 @@ ghost use Rattle.units.specs.declared.Which.{Which};
 ghost use Rattle.pair.specs.inner.Parts.{found_none};
 ghost use Rattle.pair.specs.Calls.{inserted, deleted, changed, found_of, set_up, sound};
 ghost use Rattle.capi.specs.Modes.{unknown_mode};
-ghost use Rattle.capi_pair.specs.PairFinds.{found_by, mode_answer};
+ghost use Rattle.capi_pair.specs.PairFinds.{found_by};
 
 use capi::modes;
-use capi::modes::Given;
-use pair::{Changed, Found, Pair, PairCheck};
-use units::{Aim, Range, Size};
+use pair::{Changed, Found, Pair};
+use units::{Aim, Range, Size, Which};
 
 #[unsafe(no_mangle)]
 pub extern "C" fn lg_pair_insert(
@@ -39,26 +38,33 @@ pub extern "C" fn lg_pair_delete(
     pair.delete(words, nodes, range)
 }
 
-// The number that refuses a find whose mode is not known: 5, 6, or 4 for the mode.
-fn mode_answer(check: PairCheck) -> u64
-    ensures { result ≡ mode_answer check }
-{
-    match check {
-        PairCheck::BadSetUp => 5,
-        PairCheck::Damaged => 6,
-        PairCheck::Good(_, _) => 4,
-    }
-}
-
 // The refusal of a find whose mode is not known.
 fn refuse(pair: Pair, words: &[u64], nodes: &[u64]) -> Found
     ensures { result ≡ found_none pair (unknown_mode (set_up pair words.now nodes.now) (sound pair words.now nodes.now)) }
 {
+    let refusal = modes::refusal_after(pair.check(words, nodes, Aim::Nothing));
     Found {
         pair,
-        answer: mode_answer(pair.check(words, nodes, Aim::Nothing)),
+        answer: refusal.number(),
         range: Range::none(),
         old: Range::none(),
+    }
+}
+
+// The find that `which` names, with its size and its mode as numbers.
+fn find(
+    pair: Pair,
+    words: &mut [u64],
+    nodes: &mut [u64],
+    which: Which,
+    size: u64,
+    mode: u64,
+) -> Found
+    ensures { (result ≡ found_of (found_by pair words.old nodes.old which size mode)) × (words.new ≡ (found_by pair words.old nodes.old which size mode).words.list) × (nodes.new ≡ (found_by pair words.old nodes.old which size mode).words.block) }
+{
+    match modes::mode_of(mode) {
+        Some(mode) => pair.find(words, nodes, which, Size::new(size), mode),
+        None => refuse(pair, words, nodes),
     }
 }
 
@@ -72,10 +78,7 @@ pub extern "C" fn lg_pair_find_first(
 ) -> Found
     ensures { (result ≡ found_of (found_by pair words.old nodes.old Which.First size mode)) × (words.new ≡ (found_by pair words.old nodes.old Which.First size mode).words.list) × (nodes.new ≡ (found_by pair words.old nodes.old Which.First size mode).words.block) }
 {
-    match modes::mode_of(mode) {
-        Given::Mode(mode) => pair.find_first(words, nodes, Size::new(size), mode),
-        Given::Unknown => refuse(pair, words, nodes),
-    }
+    find(pair, words, nodes, Which::First, size, mode)
 }
 
 #[unsafe(no_mangle)]
@@ -88,10 +91,7 @@ pub extern "C" fn lg_pair_find_last(
 ) -> Found
     ensures { (result ≡ found_of (found_by pair words.old nodes.old Which.Last size mode)) × (words.new ≡ (found_by pair words.old nodes.old Which.Last size mode).words.list) × (nodes.new ≡ (found_by pair words.old nodes.old Which.Last size mode).words.block) }
 {
-    match modes::mode_of(mode) {
-        Given::Mode(mode) => pair.find_last(words, nodes, Size::new(size), mode),
-        Given::Unknown => refuse(pair, words, nodes),
-    }
+    find(pair, words, nodes, Which::Last, size, mode)
 }
 
 #[unsafe(no_mangle)]
@@ -104,8 +104,5 @@ pub extern "C" fn lg_pair_find_largest(
 ) -> Found
     ensures { (result ≡ found_of (found_by pair words.old nodes.old Which.Largest size mode)) × (words.new ≡ (found_by pair words.old nodes.old Which.Largest size mode).words.list) × (nodes.new ≡ (found_by pair words.old nodes.old Which.Largest size mode).words.block) }
 {
-    match modes::mode_of(mode) {
-        Given::Mode(mode) => pair.find_largest(words, nodes, Size::new(size), mode),
-        Given::Unknown => refuse(pair, words, nodes),
-    }
+    find(pair, words, nodes, Which::Largest, size, mode)
 }

@@ -2,7 +2,8 @@
 use Prim.Native.Nat.{ℕ, ◌+◌, ◌-◌, ◌^◌, ◌≤◌, ◌<◌}
 use mathlib.Core.Bool.{true}
 use mathlib.Core.List.{List}
-use mathlib.Core.Path.{◌≡◌, sym, ap, ◌∙◌}
+use mathlib.Core.Logic.{◌⊎◌, inl, inr}
+use mathlib.Core.Path.{◌≡◌, refl, sym, ap, ◌∙◌}
 use native.Mathlib.Omega.{arith}
 use lib.ListN.{length, length-append}
 use Rattle.std.specs.Prelude.{Result, Ok, Err}
@@ -29,7 +30,7 @@ use Rattle.block_land.specs.Layout as block
 use Rattle.block_land.specs.declared.BlockLand.{BlockLand}
 use Rattle.block_land.proofs.LayoutLaws as block-laws
 use Rattle.flush.specs.Flush.{refusal, check_number, check_of, moves, done, flushed}
-use Rattle.transfers.specs.inner.Transfers.{Going, table_arena, flush_of, transfer_of, transfer_words}
+use Rattle.transfers.specs.inner.Transfers.{Going, table_arena, flush_of, transfer_of, transfer_words, stop_of, stop_number}
 use Rattle.flush.specs.declared.FlushError.{FlushError}
 use Rattle.flush.specs.declared.Flushed.{Flushed}
 use Rattle.transfers.specs.declared.Moved.{Moved}
@@ -42,6 +43,12 @@ unfolding flushed
 refused h ws k vs c ec x ex w ew =
     let e : done h ws k vs (check_of h ws k vs) ≡ record { result = refusal h k (check_number (Err x)); nodes = vs } = ap (done h ws k vs) (sym ec ∙ ex) in
     (rw e ew, rw e)
+
+-- the number of what stopped a flush
+stop-back : (n : ℕ) → (n ≡ 0) ⊎ ((n ≡ 1) ⊎ (n ≡ 3)) → stop_number (stop_of n) ≡ n
+stop-back n (inl e) = rw e refl
+stop-back n (inr (inl e)) = rw e refl
+stop-back n (inr (inr e)) = rw e refl
 
 -- A FLUSH WHOSE CHECKS ARE GOOD
 module _ (h : ListLand) (ws : List ℕ) (k : BlockLand) (vs : List ℕ) (g : check_of h ws k vs ≡ Ok tt) where
@@ -93,13 +100,13 @@ module _ (h : ListLand) (ws : List ℕ) (k : BlockLand) (vs : List ℕ) (g : che
       moved = (moves h ws k vs).moved;
       bytes = record { 0 = total (list.walk_of h ws).met - total (moves h ws k vs).left };
       count = length (moves h ws k vs).into;
-      stop = (moves h ws k vs).stop;
+      stop = stop_of (moves h ws k vs).stop;
     }
     unfolding transfer_of
     is =
         e.0
-        ∙ ap (λ (f : Flush). record { at = addr (head_of f.left); moved = f.moved; bytes = record { 0 = total (walk_of a ws h.head.0).met - total f.left }; count = length f.into; stop = f.stop }) same-flush
-        ∙ ap (λ (x : units.Arena). record { at = addr (head_of fl.left); moved = fl.moved; bytes = record { 0 = total (walk_of x ws h.head.0).met - total fl.left }; count = length fl.into; stop = fl.stop }) ea
+        ∙ ap (λ (f : Flush). record { at = addr (head_of f.left); moved = f.moved; bytes = record { 0 = total (walk_of a ws h.head.0).met - total f.left }; count = length f.into; stop = stop_of f.stop }) same-flush
+        ∙ ap (λ (x : units.Arena). record { at = addr (head_of fl.left); moved = fl.moved; bytes = record { 0 = total (walk_of x ws h.head.0).met - total fl.left }; count = length fl.into; stop = stop_of fl.stop }) ea
 
     counts : (h.ranges ≡ m.moved + length (moves h ws k vs).left) × (h.bytes.0 ≡ m.bytes.0 + total (moves h ws k vs).left) × (m.bytes.0 ≤ 1099511627777) × (k.bytes.0 ≤ 1099511627777)
     counts =
@@ -132,20 +139,20 @@ module _ (h : ListLand) (ws : List ℕ) (k : BlockLand) (vs : List ℕ) (g : che
 
     pub accepted : (lb : Size) → lb.0 ≡ h.bytes.0 - m.bytes.0 → (h' : ListLand) → h' ≡ list.closed_with h m.at (h.ranges - m.moved) lb →
         (kb : Size) → kb.0 ≡ k.bytes.0 + m.bytes.0 → (k' : BlockLand) → k' ≡ block.closed_with k m.count kb →
-        (record { list = h'; block = k'; answer = 0; moved = m.moved; stop = m.stop } ≡ (flushed h ws k vs).result) × (vs' ≡ (flushed h ws k vs).nodes)
-    accepted lb elb h' eh kb ekb k' ek =
+        (z : ℕ) → z ≡ stop_number m.stop → (record { list = h'; block = k'; answer = 0; moved = m.moved; stop = z } ≡ (flushed h ws k vs).result) × (vs' ≡ (flushed h ws k vs).nodes)
+    accepted lb elb h' eh kb ekb k' ek z ez =
         let d = is-accepted h ws k vs c in
         let n = counts in
         let f = keeps h ws k vs c in
         let hb = (list_fine h ws k vs c).bytes in
         let bb = (block_fine h ws k vs c).bytes in
         let p1 : m.at.0 ≡ head_of fl.left = ap (λ (x : Moved). x.at.0) is in
-        let p2 : h.ranges - m.moved ≡ length fl.left = let z = n.0 in omega arith in
-        let p3 : lb.0 ≡ total fl.left = let z = n.1 in omega arith in
+        let p2 : h.ranges - m.moved ≡ length fl.left = let y = n.0 in omega arith in
+        let p3 : lb.0 ≡ total fl.left = let y = n.1 in omega arith in
         let p4 : m.count ≡ length fl.into = ap (λ (x : Moved). x.count) is in
-        let p5 : kb.0 ≡ total fl.into = let z = n.1 in let s = f.sum in omega arith in
+        let p5 : kb.0 ≡ total fl.into = let y = n.1 in let s = f.sum in omega arith in
         let p6 : m.moved ≡ fl.moved = ap (λ (x : Moved). x.moved) is in
-        let p7 : m.stop ≡ fl.stop = ap (λ (x : Moved). x.stop) is in
+        let p7 : z ≡ fl.stop = ez ∙ ap (λ (x : Moved). stop_number x.stop) is ∙ stop-back fl.stop f.stops in
         let q1 : h' ≡ list.closed h fl.left = eh ∙ list-laws.closed-as h fl.left m.at (h.ranges - m.moved) lb p1 p2 p3 in
         let q2 : k' ≡ block.closed k fl.into = ek ∙ block-laws.closed-as k fl.into m.count kb p4 p5 in
         (rw d (λ i. record { list = q1 i; block = q2 i; answer = 0; moved = p6 i; stop = p7 i }), rw d words)

@@ -71,7 +71,7 @@ module _ (h : ListLand) (k : BlockLand) (vs : List ℕ) (w : Result Entry Refusa
   seen : w ≡ look_of (block.set_up k vs) (block.sound k vs) (block_land.keep (block_land.aimed k Aim.Nothing) (block_land.ranges k vs))
   seen = ew ∙ block_land.looks k vs Aim.Nothing
 
-  kept : Entry
+  abbrev kept : Entry
   kept = block_land.keep (block_land.aimed k Aim.Nothing) (block_land.ranges k vs)
 
   pub sound-block : (x : Refusal) → w ≡ Err x → x ≡ Refusal.SetUp → Err FlushError.BlockSetUp ≡ behind_sound h k vs
@@ -94,7 +94,7 @@ module _ (h : ListLand) (ws : List ℕ) (k : BlockLand) (vs : List ℕ) (v : Res
   looked : v ≡ look_of (list.set_up h ws) (list.sound h ws) (list_land.keep (list_land.aimed h Aim.Nothing) (list_land.ranges h ws))
   looked = ev ∙ list_land.looks h ws Aim.Nothing
 
-  spot : Spot
+  abbrev spot : Spot
   spot = list_land.keep (list_land.aimed h Aim.Nothing) (list_land.ranges h ws)
 
   pub check-list : (x : Refusal) → v ≡ Err x → x ≡ Refusal.SetUp → Err FlushError.ListSetUp ≡ check_of h ws k vs

@@ -80,7 +80,11 @@ pub fn same_arena(list: ListLand, block: BlockLand) -> Result<(), Refusal>
 }
 
 // A check that comes behind the difference of the two lands.
-fn if_same(list: ListLand, block: BlockLand, check: Result<(), FlushError>) -> Result<(), FlushError>
+fn if_same(
+    list: ListLand,
+    block: BlockLand,
+    check: Result<(), FlushError>,
+) -> Result<(), FlushError>
     ensures { result ≡ if_same list block check }
 {
     let Ok(()) = same_arena(list, block) else {
@@ -113,7 +117,12 @@ fn check_sound(list: ListLand, block: BlockLand, nodes: &[u64]) -> Result<(), Fl
 }
 
 // The checks of a flush: the first that fails. Each land is looked at once; what it says of the set-up comes first.
-pub fn check(list: ListLand, words: &[u64], block: BlockLand, nodes: &[u64]) -> Result<(), FlushError>
+pub fn check(
+    list: ListLand,
+    words: &[u64],
+    block: BlockLand,
+    nodes: &[u64],
+) -> Result<(), FlushError>
     ensures { result ≡ check_of list words.now block nodes.now }
 {
     match list.look(words, Aim::Nothing) {

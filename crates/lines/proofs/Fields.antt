@@ -2,7 +2,6 @@
 use Prim.Native.Nat.{ℕ}
 use mathlib.Core.Bool.{Bool, true, false, cond, ◌&&◌}
 use mathlib.Core.List.{List, [], ◌∷◌}
-use mathlib.Core.Option.{none}
 use mathlib.Core.Path.{◌≡◌, refl, sym, ap, subst⁻¹, ◌∙◌}
 use native.Mathlib.Omega.{arith}
 use lib.Dec.{eqb, leb, ltb}
@@ -11,7 +10,7 @@ use Rattle.units.proofs.Tests.{by, clash, and_left, and_right}
 use Rattle.lines.specs.Requests.{word_limit, every, is_digit, number, same, value_from}
 use Rattle.lines.specs.inner.Reading.{is_letter, as_name, as_number, name_with, number_with, pack_from, is_packed, name_in, number_in}
 use Rattle.lines.specs.declared.Field.{Field}
-use Rattle.lines.specs.declared.Grown.{Grown}
+use Rattle.std.specs.Prelude.{Option, Some, None}
 use Rattle.lines.proofs.Numerals.{grown-all, named, counted, read_name, read_number}
 use Rattle.lines.proofs.Packing.{pack-apart, same_refl, same-eq, letter-low}
 
@@ -33,13 +32,13 @@ module _ (b : ℕ) (bs : List ℕ) where
       chosen t e = rw e
 
 -- what a name or a number that was read is not
-name-no-number : (g : Grown) → number_in (as_name g) ≡ none
-name-no-number (Grown.More w) = refl
-name-no-number Grown.Over = refl
+name-no-number : (g : Option ℕ) → number_in (as_name g) ≡ None
+name-no-number (Some w) = refl
+name-no-number None = refl
 
-number-no-name : (g : Grown) (n : ℕ) → is_packed (as_number g) n ≡ false
-number-no-name (Grown.More v) n = refl
-number-no-name Grown.Over n = refl
+number-no-name : (g : Option ℕ) (n : ℕ) → is_packed (as_number g) n ≡ false
+number-no-name (Some v) n = refl
+number-no-name None n = refl
 
 number-as : (b : ℕ) (bs : List ℕ) → number_in (as_number (counted (b ∷ bs))) ≡ number (b ∷ bs)
 number-as b bs =
@@ -58,11 +57,11 @@ number_read [] = refl
 number_read (b ∷ bs) =
     by (is_letter b)
     (λ e.
-    let h : number_in (field_of (b ∷ bs)) ≡ none = ap number_in (letter-first b bs e ∙ read_name (b ∷ bs)) ∙ name-no-number (named (b ∷ bs)) in
+    let h : number_in (field_of (b ∷ bs)) ≡ None = ap number_in (letter-first b bs e ∙ read_name (b ∷ bs)) ∙ name-no-number (named (b ∷ bs)) in
     h ∙ sym (no_number (letter-no-digit b e)))
     (λ e. ap number_in (other-first b bs e ∙ read_number (b ∷ bs)) ∙ number-as b bs)
   where
-    no_number : is_digit b ≡ false → number (b ∷ bs) ≡ none
+    no_number : is_digit b ≡ false → number (b ∷ bs) ≡ None
     no_number e = rw e
 
 -- a text of letters that a name can be
@@ -70,7 +69,7 @@ abbrev pub nameable : List ℕ → Bool
 nameable [] = false
 nameable (b ∷ bs) = every is_letter (b ∷ bs) && ltb (pack_from 0 (b ∷ bs)) word_limit
 
-is-as : (t : Bool) (w n : ℕ) → is_packed (as_name (cond t (Grown.More w) Grown.Over)) n ≡ (t && eqb w n)
+is-as : (t : Bool) (w n : ℕ) → is_packed (as_name (cond t (Some w) None)) n ≡ (t && eqb w n)
 is-as true w n = refl
 is-as false w n = refl
 

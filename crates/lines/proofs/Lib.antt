@@ -1,6 +1,3 @@
-pub mod Ways
-pub mod FormWays
-pub mod LineWays
 pub mod Running
 pub mod Pieces
 pub mod Numerals

@@ -11,7 +11,7 @@ use Rattle.units.proofs.Tests.{by, tests}
 use Rattle.lines.specs.Requests.{word_limit, every, is_digit, value_from}
 use Rattle.lines.specs.inner.Reading.{is_letter, with_digit, as_name, as_number, grown, pack_from}
 use Rattle.lines.specs.declared.Field.{Field}
-use Rattle.lines.specs.declared.Grown.{Grown}
+use Rattle.std.specs.Prelude.{Option, Some, None}
 
 -- the field after some bytes
 abbrev pub grown-all : Field → List ℕ → Field
@@ -24,11 +24,11 @@ module _ (base : ℕ) (digit : ℕ → Bool) (count : ℕ → ℕ) where
   worth v [] = v
   worth v (b ∷ bs) = worth (v * base + count b) bs
 
-  abbrev pub after : Grown → ℕ → Grown
-  after (Grown.More v) b = cond (digit b) (with_digit base v (count b)) Grown.Over
-  after Grown.Over b = Grown.Over
+  abbrev pub after : Option ℕ → ℕ → Option ℕ
+  after (Some v) b = cond (digit b) (with_digit base v (count b)) None
+  after None b = None
 
-  abbrev pub after-all : Grown → List ℕ → Grown
+  abbrev pub after-all : Option ℕ → List ℕ → Option ℕ
   after-all g [] = g
   after-all g (b ∷ bs) = after-all (after g b) bs
 
@@ -36,7 +36,7 @@ module _ (base : ℕ) (digit : ℕ → Bool) (count : ℕ → ℕ) where
   abbrev pub fits : ℕ → List ℕ → Bool
   fits v bs = every digit bs && ltb (worth v bs) word_limit
 
-  over-stays : (bs : List ℕ) → after-all Grown.Over bs ≡ Grown.Over
+  over-stays : (bs : List ℕ) → after-all None bs ≡ None
   over-stays [] = refl
   over-stays (b ∷ bs) = over-stays bs
 
@@ -46,7 +46,7 @@ module _ (base : ℕ) (digit : ℕ → Bool) (count : ℕ → ℕ) where
     worth-grows v (b ∷ bs) = omega (arith, le-mul_of_pos_right v p, worth-grows (v * base + count b) bs)
 
     pub digits : (v : ℕ) (bs : List ℕ) → v < word_limit →
-        after-all (Grown.More v) bs ≡ cond (fits v bs) (Grown.More (worth v bs)) Grown.Over
+        after-all (Some v) bs ≡ cond (fits v bs) (Some (worth v bs)) None
     digits v [] h = rw (lt-ltb v word_limit h)
     digits v (b ∷ bs) h =
         by (digit b)
@@ -58,15 +58,15 @@ module _ (base : ℕ) (digit : ℕ → Bool) (count : ℕ → ℕ) where
         (λ d. rw d (over-stays bs))
 
 -- a field is read as its digits are
-module _ (base : ℕ) (digit : ℕ → Bool) (count : ℕ → ℕ) (field : Grown → Field)
-    (step : (g : Grown) (b : ℕ) → grown (field g) b ≡ field (after base digit count g b)) where
-  read_as : (g : Grown) (bs : List ℕ) → grown-all (field g) bs ≡ field (after-all base digit count g bs)
+module _ (base : ℕ) (digit : ℕ → Bool) (count : ℕ → ℕ) (field : Option ℕ → Field)
+    (step : (g : Option ℕ) (b : ℕ) → grown (field g) b ≡ field (after base digit count g b)) where
+  read_as : (g : Option ℕ) (bs : List ℕ) → grown-all (field g) bs ≡ field (after-all base digit count g bs)
   read_as g [] = refl
   read_as g (b ∷ bs) = ap (λ (f : Field). grown-all f bs) (step g b) ∙ read_as (after base digit count g b) bs
 
   pub read-digits : 0 < base → (bs : List ℕ) →
-      grown-all (field (Grown.More 0)) bs ≡ field (cond (fits base digit count 0 bs) (Grown.More (worth base digit count 0 bs)) Grown.Over)
-  read-digits p bs = read_as (Grown.More 0) bs ∙ ap field (digits base digit count p 0 bs (omega arith))
+      grown-all (field (Some 0)) bs ≡ field (cond (fits base digit count 0 bs) (Some (worth base digit count 0 bs)) None)
+  read-digits p bs = read_as (Some 0) bs ∙ ap field (digits base digit count p 0 bs (omega arith))
 
 -- the two kinds of digits: letters count as they are, decimal digits from 48 on
 abbrev pub as_is : ℕ → ℕ
@@ -83,20 +83,20 @@ pub worth-decimal : (v : ℕ) (bs : List ℕ) → worth 10 is_digit from_zero v 
 worth-decimal v [] = refl
 worth-decimal v (b ∷ bs) = worth-decimal (v * 10 + (b - 48)) bs
 
-name-step : (g : Grown) (b : ℕ) → grown (as_name g) b ≡ as_name (after 256 is_letter as_is g b)
-name-step (Grown.More w) b = by (is_letter b) (λ e. rw e) (λ e. rw e)
-name-step Grown.Over b = refl
+name-step : (g : Option ℕ) (b : ℕ) → grown (as_name g) b ≡ as_name (after 256 is_letter as_is g b)
+name-step (Some w) b = by (is_letter b) (λ e. rw e) (λ e. rw e)
+name-step None b = refl
 
-number_step : (g : Grown) (b : ℕ) → grown (as_number g) b ≡ as_number (after 10 is_digit from_zero g b)
-number_step (Grown.More v) b = by (is_digit b) (λ e. rw e) (λ e. rw e)
-number_step Grown.Over b = refl
+number_step : (g : Option ℕ) (b : ℕ) → grown (as_number g) b ≡ as_number (after 10 is_digit from_zero g b)
+number_step (Some v) b = by (is_digit b) (λ e. rw e) (λ e. rw e)
+number_step None b = refl
 
 -- the number of some letters, and of some decimal digits
-abbrev pub named : List ℕ → Grown
-named bs = cond (every is_letter bs && ltb (pack_from 0 bs) word_limit) (Grown.More (pack_from 0 bs)) Grown.Over
+abbrev pub named : List ℕ → Option ℕ
+named bs = cond (every is_letter bs && ltb (pack_from 0 bs) word_limit) (Some (pack_from 0 bs)) None
 
-abbrev pub counted : List ℕ → Grown
-counted bs = cond (every is_digit bs && ltb (value_from 0 bs) word_limit) (Grown.More (value_from 0 bs)) Grown.Over
+abbrev pub counted : List ℕ → Option ℕ
+counted bs = cond (every is_digit bs && ltb (value_from 0 bs) word_limit) (Some (value_from 0 bs)) None
 
 pub read_name : (bs : List ℕ) → grown-all (Field.Name 0) bs ≡ as_name (named bs)
 read_name bs = rw (← worth-letters 0 bs) (read-digits 256 is_letter as_is as_name name-step (omega arith) bs)

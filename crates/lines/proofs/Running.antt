@@ -10,7 +10,7 @@ use lib.Seq.{take-suc, get_or-drop}
 use borrow.Author.Tests.{ne_eqb}
 use Rattle.units.proofs.Tests.{by}
 use Rattle.lines.specs.Requests.{word_limit, is_digit, every}
-use Rattle.lines.specs.inner.Reading.{grown, with_field, at_start, next_of, read_more, no_field, no_byte, begun_in, in_line, is_letter, name_with, number_with, ReadTo}
+use Rattle.lines.specs.inner.Reading.{grown, with_field, at_start, next_of, read_more, no_field, no_byte, begun_in, in_line, is_letter, name_with, number_with}
 use Rattle.lines.specs.declared.Field.{Field}
 use Rattle.lines.specs.declared.Line.{Line}
 use Rattle.lines.specs.declared.Reader.{Reader}
@@ -44,12 +44,6 @@ pub record Along (r : Reader) (bytes : List ℕ) (from : ℕ) (reader : Reader) 
   pub line : every in_line (part bytes from at) ≡ true
 
 module _ (r : Reader) (bytes : List ℕ) (from : ℕ) where
-  pub along-start : from ≤ length bytes → Along r bytes from r from
-  along-start h =
-      let n : from - from ≡ 0 = omega arith in
-      let p : part bytes from from ≡ [] = ap (λ (i : ℕ). take i (drop from bytes)) n in
-      record { start = omega arith; fits = h; so_far = rw p; line = rw p }
-
   module _ (reader : Reader) (at : ℕ) (a : Along r bytes from reader at) where
     pub along-next : (q : Reader) → at < length bytes → (get_or bytes at 0 ≡ 10 → ⊥) → q ≡ next_of reader (get_or bytes at 0) →
         Along r bytes from q (at + 1)
@@ -60,12 +54,6 @@ module _ (r : Reader) (bytes : List ℕ) (from : ℕ) where
         let l : every in_line (part bytes from (at + 1)) ≡ true =
         ap (every in_line) p ∙ (every_append in_line (part bytes from at) (get_or bytes at 0 ∷ []) ∙ rw (a.line, ne_eqb (get_or bytes at 0) 10 k)) in
         record { start = omega arith; fits = omega arith; so_far = e ∙ sym m; line = l }
-
-    pub along-newline : get_or bytes at 0 ≡ 10 → ReadTo r bytes from (record { reader = reader; at = at })
-    along-newline e = record { start = a.start; fits = a.fits; reader = a.so_far; line = a.line; stop = λ h. e }
-
-    pub along-end : length bytes ≤ at → ReadTo r bytes from (record { reader = reader; at = at })
-    along-end h = record { start = a.start; fits = a.fits; reader = a.so_far; line = a.line; stop = λ k. absurd (omega arith) }
 
 -- a byte of a line has come
 no-field-with : (l : Line) (f : Field) → no_field (with_field l f) ≡ false

@@ -1,6 +1,5 @@
 -- Lines of bytes and what they ask for: document 01, 'The program that plays requests'. Assumes nothing.
-use Rattle.std.specs.Prelude.{ℕ, ◌+◌, ◌*◌, ◌-◌, Bool, true, false, cond, ◌&&◌, List, [], ◌∷◌, eqb, leb, ltb}
-use Rattle.std.proofs.Math.Option.{Option, none, some}
+use Rattle.std.specs.Prelude.{ℕ, ◌+◌, ◌*◌, ◌-◌, Bool, true, false, cond, ◌&&◌, List, [], ◌∷◌, eqb, leb, ltb, Option, Some, None}
 use Rattle.units.specs.Words.{addr, range_of}
 use Rattle.units.specs.declared.Mode.{Mode}
 use Rattle.units.specs.declared.Range.{Range}
@@ -49,11 +48,11 @@ value_from v (b ∷ bs) = value_from (v * 10 + (b - 48)) bs
 
 -- A decimal number: one digit or more, leading zeros allowed, at most 2^64 - 1.
 abbrev pub number : List ℕ → Option ℕ
-number [] = none
+number [] = None
 number (b ∷ bs) =
     cond (every is_digit (b ∷ bs) && ltb (value_from 0 (b ∷ bs)) word_limit)
-    (some (value_from 0 (b ∷ bs)))
-    none
+    (Some (value_from 0 (b ∷ bs)))
+    None
 
 -- The field is this name.
 abbrev pub same : List ℕ → List ℕ → Bool
@@ -63,49 +62,49 @@ same (x ∷ xs) [] = false
 same (x ∷ xs) (y ∷ ys) = eqb x y && same xs ys
 
 -- A form with its numbers; without one of them it is no form.
-abbrev pub arena_form : Option ℕ → Option ℕ → Option ℕ → Request
-arena_form none l a = Request.Unknown
-arena_form (some b) none a = Request.Unknown
-arena_form (some b) (some l) none = Request.Unknown
-arena_form (some b) (some l) (some a) = Request.Arena (addr b) (addr l) (record { 0 = a })
+abbrev pub arena_form : Option ℕ → Option ℕ → Option ℕ → Option Request
+arena_form None l a = None
+arena_form (Some b) None a = None
+arena_form (Some b) (Some l) None = None
+arena_form (Some b) (Some l) (Some a) = Some (Request.Arena (addr b) (addr l) (record { 0 = a }))
 
-abbrev pub range_form : (Range → Request) → Option ℕ → Option ℕ → Request
-range_form f none l = Request.Unknown
-range_form f (some b) none = Request.Unknown
-range_form f (some b) (some l) = f (range_of b l)
+abbrev pub range_form : (Range → Request) → Option ℕ → Option ℕ → Option Request
+range_form f None l = None
+range_form f (Some b) None = None
+range_form f (Some b) (Some l) = Some (f (range_of b l))
 
-abbrev pub find_form : Which → Option ℕ → Option Mode → Request
-find_form w none m = Request.Unknown
-find_form w (some n) none = Request.Unknown
-find_form w (some n) (some m) = Request.Find w (record { 0 = n }) m
+abbrev pub find_form : Which → Option ℕ → Option Mode → Option Request
+find_form w None m = None
+find_form w (Some n) None = None
+find_form w (Some n) (Some m) = Some (Request.Find w (record { 0 = n }) m)
 
-abbrev pub walk_form : Option ℕ → Request
-walk_form none = Request.Unknown
-walk_form (some n) = Request.Walk (addr n)
+abbrev pub walk_form : Option ℕ → Option Request
+walk_form None = None
+walk_form (Some n) = Some (Request.Walk (addr n))
 
 -- The forms, over any fields F of which it is known whether one is a name, and which number it is.
 module _ {F : Type 0} (is : F → List ℕ → Bool) (num : F → Option ℕ) where
   abbrev pub mode_of : F → Option Mode
   mode_of f =
-      cond (is f none_name) (some Mode.None)
-      (cond (is f low_name) (some Mode.Low)
-      (cond (is f high_name) (some Mode.High)
-      (cond (is f entire_name) (some Mode.Entire) none)))
+      cond (is f none_name) (Some Mode.None)
+      (cond (is f low_name) (Some Mode.Low)
+      (cond (is f high_name) (Some Mode.High)
+      (cond (is f entire_name) (Some Mode.Entire) None)))
 
-  abbrev pub request_of : List F → Request
-  request_of [] = Request.Unknown
-  request_of (w ∷ []) = cond (is w describe_name) Request.Describe Request.Unknown
-  request_of (w ∷ x ∷ []) = cond (is w walk_name) (walk_form (num x)) Request.Unknown
+  abbrev pub request_of : List F → Option Request
+  request_of [] = None
+  request_of (w ∷ []) = cond (is w describe_name) (Some Request.Describe) None
+  request_of (w ∷ x ∷ []) = cond (is w walk_name) (walk_form (num x)) None
   request_of (w ∷ x ∷ y ∷ []) =
       cond (is w insert_name) (range_form Request.Insert (num x) (num y))
       (cond (is w delete_name) (range_form Request.Delete (num x) (num y))
       (cond (is w first_name) (find_form Which.First (num x) (mode_of y))
       (cond (is w last_name) (find_form Which.Last (num x) (mode_of y))
-      (cond (is w largest_name) (find_form Which.Largest (num x) (mode_of y)) Request.Unknown))))
+      (cond (is w largest_name) (find_form Which.Largest (num x) (mode_of y)) None))))
   request_of (w ∷ x ∷ y ∷ z ∷ []) =
-      cond (is w arena_name) (arena_form (num x) (num y) (num z)) Request.Unknown
-  request_of (w ∷ x ∷ y ∷ z ∷ v ∷ fs) = Request.Unknown
+      cond (is w arena_name) (arena_form (num x) (num y) (num z)) None
+  request_of (w ∷ x ∷ y ∷ z ∷ v ∷ fs) = None
 
--- What a line asks for.
-abbrev pub parse : List ℕ → Request
+-- What a line asks for, if it has a form.
+abbrev pub parse : List ℕ → Option Request
 parse line = request_of same number (split space line)

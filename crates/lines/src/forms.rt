@@ -1,8 +1,8 @@
 // The forms of a line: which fields make which request.
 ghost use Rattle.std.specs.Prelude.{◌≡◌, [], ◌∷◌};
 ghost use Rattle.lines.specs.Requests.{request_of, mode_of, range_form, find_form, arena_form};
-ghost use Rattle.lines.specs.inner.Reading.{is_packed, name_in, number_in, fields_in};
-ghost use Rattle.lines.specs.inner.Parts.{bounds_of, ending_of};
+ghost use Rattle.lines.specs.inner.Reading.{name_in, number_in, fields_in};
+ghost use Rattle.lines.specs.inner.Parts.{letters_of, bounds_of};
 
 use crate::{Field, Line, Request};
 use units::{Addr, Align, Mode, Range, Size, Which};
@@ -32,177 +32,115 @@ const HIGH: u64 = 0x68696768;
 
 const ENTIRE: u64 = 0x656e74697265;
 
-// A mode, or a field that names none.
-#[derive(Clone, Copy)]
-pub enum Ending {
-    Mode(Mode),
-    Unknown,
-}
-
-// A range, or two fields that are not both numbers.
-#[derive(Clone, Copy)]
-pub enum Bounds {
-    Range(Range),
-    Unknown,
-}
-
 impl Field {
-    // Whether the field is this name.
-    fn is(self, name: u64) -> bool
-        ensures { result ≡ is_packed self name }
+    // The letters of a name.
+    fn name(self) -> Option<u64>
+        ensures { result ≡ letters_of self }
     {
-        let Field::Name(n) = self else {
-            return false;
-        };
-        n == name
+        match self {
+            Field::Name(letters) => Some(letters),
+            _ => None,
+        }
+    }
+
+    fn number(self) -> Option<u64>
+        ensures { result ≡ number_in self }
+    {
+        match self {
+            Field::Number(value) => Some(value),
+            _ => None,
+        }
     }
 
     // The mode that the field names.
-    fn mode(self) -> Ending
-        ensures { result ≡ ending_of (mode_of name_in number_in self) }
+    fn mode(self) -> Option<Mode>
+        ensures { result ≡ mode_of name_in number_in self }
     {
-        if self.is(NONE) {
-            return Ending::Mode(Mode::None);
+        match self.name()? {
+            NONE => Some(Mode::None),
+            LOW => Some(Mode::Low),
+            HIGH => Some(Mode::High),
+            ENTIRE => Some(Mode::Entire),
+            _ => None,
         }
-        if self.is(LOW) {
-            return Ending::Mode(Mode::Low);
-        }
-        if self.is(HIGH) {
-            return Ending::Mode(Mode::High);
-        }
-        if self.is(ENTIRE) {
-            return Ending::Mode(Mode::Entire);
-        }
-        Ending::Unknown
     }
 }
 
 // The range of two numbers.
-fn range_of(x: Field, y: Field) -> Bounds
+fn range_of(x: Field, y: Field) -> Option<Range>
     ensures { result ≡ bounds_of (number_in x) (number_in y) }
 {
-    let Field::Number(base) = x else {
-        return Bounds::Unknown;
-    };
-    let Field::Number(limit) = y else {
-        return Bounds::Unknown;
-    };
-    Bounds::Range(Range::new(Addr::new(base), Addr::new(limit)))
-}
-
-// insert and a range.
-fn inserting(x: Field, y: Field) -> Request
-    ensures { result ≡ range_form Request.Insert (number_in x) (number_in y) }
-{
-    match range_of(x, y) {
-        Bounds::Range(range) => Request::Insert(range),
-        Bounds::Unknown => Request::Unknown,
-    }
-}
-
-// delete and a range.
-fn deleting(x: Field, y: Field) -> Request
-    ensures { result ≡ range_form Request.Delete (number_in x) (number_in y) }
-{
-    match range_of(x, y) {
-        Bounds::Range(range) => Request::Delete(range),
-        Bounds::Unknown => Request::Unknown,
-    }
+    Some(Range::new(Addr::new(x.number()?), Addr::new(y.number()?)))
 }
 
 // A find with its size and its mode.
-fn finding(which: Which, x: Field, y: Field) -> Request
+fn finding(which: Which, x: Field, y: Field) -> Option<Request>
     ensures { result ≡ find_form which (number_in x) (mode_of name_in number_in y) }
 {
-    let Field::Number(size) = x else {
-        return Request::Unknown;
-    };
-    match y.mode() {
-        Ending::Mode(mode) => Request::Find(which, Size::new(size), mode),
-        Ending::Unknown => Request::Unknown,
-    }
+    Some(Request::Find(which, Size::new(x.number()?), y.mode()?))
 }
 
 // arena with its range and its alignment.
-fn arena(x: Field, y: Field, z: Field) -> Request
+fn arena(x: Field, y: Field, z: Field) -> Option<Request>
     ensures { result ≡ arena_form (number_in x) (number_in y) (number_in z) }
 {
-    let Field::Number(base) = x else {
-        return Request::Unknown;
-    };
-    let Field::Number(limit) = y else {
-        return Request::Unknown;
-    };
-    let Field::Number(align) = z else {
-        return Request::Unknown;
-    };
-    Request::Arena(Addr::new(base), Addr::new(limit), Align::new(align))
+    let base = Addr::new(x.number()?);
+    let limit = Addr::new(y.number()?);
+    Some(Request::Arena(base, limit, Align::new(z.number()?)))
 }
 
 // A line of one field.
-fn of_one(w: Field) -> Request
+fn of_one(w: Field) -> Option<Request>
     ensures { result ≡ request_of name_in number_in (w ∷ []) }
 {
-    if w.is(DESCRIBE) {
-        return Request::Describe;
+    match w.name()? {
+        DESCRIBE => Some(Request::Describe),
+        _ => None,
     }
-    Request::Unknown
 }
 
-fn of_two(w: Field, x: Field) -> Request
+fn of_two(w: Field, x: Field) -> Option<Request>
     ensures { result ≡ request_of name_in number_in (w ∷ x ∷ []) }
 {
-    if !w.is(WALK) {
-        return Request::Unknown;
+    match w.name()? {
+        WALK => Some(Request::Walk(Addr::new(x.number()?))),
+        _ => None,
     }
-    let Field::Number(at) = x else {
-        return Request::Unknown;
-    };
-    Request::Walk(Addr::new(at))
 }
 
-fn of_three(w: Field, x: Field, y: Field) -> Request
+fn of_three(w: Field, x: Field, y: Field) -> Option<Request>
     ensures { result ≡ request_of name_in number_in (w ∷ x ∷ y ∷ []) }
 {
-    if w.is(INSERT) {
-        return inserting(x, y);
+    match w.name()? {
+        INSERT => Some(Request::Insert(range_of(x, y)?)),
+        DELETE => Some(Request::Delete(range_of(x, y)?)),
+        FIRST => finding(Which::First, x, y),
+        LAST => finding(Which::Last, x, y),
+        LARGEST => finding(Which::Largest, x, y),
+        _ => None,
     }
-    if w.is(DELETE) {
-        return deleting(x, y);
-    }
-    if w.is(FIRST) {
-        return finding(Which::First, x, y);
-    }
-    if w.is(LAST) {
-        return finding(Which::Last, x, y);
-    }
-    if w.is(LARGEST) {
-        return finding(Which::Largest, x, y);
-    }
-    Request::Unknown
 }
 
-fn of_four(w: Field, x: Field, y: Field, z: Field) -> Request
+fn of_four(w: Field, x: Field, y: Field, z: Field) -> Option<Request>
     ensures { result ≡ request_of name_in number_in (w ∷ x ∷ y ∷ z ∷ []) }
 {
-    if w.is(ARENA) {
-        return arena(x, y, z);
+    match w.name()? {
+        ARENA => arena(x, y, z),
+        _ => None,
     }
-    Request::Unknown
 }
 
 impl Line {
-    // What a line of these fields asks for.
-    pub(crate) fn request(self) -> Request
+    // What a line of these fields asks for, if it has a form.
+    pub(crate) fn request(self) -> Option<Request>
         ensures { result ≡ request_of name_in number_in (fields_in self) }
     {
         match self {
-            Line::Zero => Request::Unknown,
             Line::One(w) => of_one(w),
             Line::Two(w, x) => of_two(w, x),
             Line::Three(w, x, y) => of_three(w, x, y),
             Line::Four(w, x, y, z) => of_four(w, x, y, z),
-            Line::More => Request::Unknown,
+            Line::Zero | Line::More => None,
         }
     }
 }

@@ -6,14 +6,13 @@
 mod forms;
 
 ghost use Rattle.std.specs.Prelude.{◌≡◌, ◌≤◌, ◌<◌, length};
-ghost use Rattle.lines.specs.Requests.{is_digit};
-ghost use Rattle.lines.specs.inner.Reading.{is_letter, with_digit, name_with, number_with, grown, with_field, at_start, next_of, request_in, begun_in, ReadTo};
+ghost use Rattle.lines.specs.inner.Reading.{with_digit, name_with, number_with, grown, with_field, at_start, next_of, request_in, begun_in, ReadTo};
 
 use units::{Addr, Align, Mode, Range, Size, Which};
 
 // What the bytes of a field are: none yet, a name, a number, or neither. A name has at most eight letters, and stands as
 // a number to the base 256.
-#[derive(Clone, Copy)]
+#[derive(Clone, Copy, Debug)]
 pub enum Field {
     Empty,
     Name(u64),
@@ -22,7 +21,7 @@ pub enum Field {
 }
 
 // The fields of a line that have ended. No form has more than four.
-#[derive(Clone, Copy)]
+#[derive(Clone, Copy, Debug)]
 pub enum Line {
     Zero,
     One(Field),
@@ -33,23 +32,22 @@ pub enum Line {
 }
 
 // A line that is being read: the fields that have ended, and the one that has not.
-#[derive(Clone, Copy)]
+#[derive(Clone, Copy, Debug)]
 pub struct Reader {
     pub line: Line,
     pub field: Field,
 }
 
 // A reader after some bytes, and the position after them.
-#[derive(Clone, Copy)]
+#[derive(Clone, Copy, Debug)]
 pub struct Read {
     pub reader: Reader,
     pub at: usize,
 }
 
-// What a line asks for. Unknown is a line outside the forms.
+// What a line of one of the forms asks for.
 #[derive(Clone, Copy)]
 pub enum Request {
-    Unknown,
     Arena(Addr, Addr, Align),
     Insert(Range),
     Delete(Range),
@@ -58,69 +56,29 @@ pub enum Request {
     Describe,
 }
 
-// A number with one digit more, or one that would pass 2^64 - 1.
-#[derive(Clone, Copy)]
-pub enum Grown {
-    More(u64),
-    Over,
-}
-
-fn wide(b: u8) -> u64
-    ensures { result ≡ b }
-{
-    b as u64
-}
-
-fn is_digit(b: u8) -> bool
-    ensures { result ≡ is_digit b }
-{
-    if b < b'0' {
-        return false;
-    }
-    b <= b'9'
-}
-
-fn is_letter(b: u8) -> bool
-    ensures { result ≡ is_letter b }
-{
-    if b < b'a' {
-        return false;
-    }
-    b <= b'z'
-}
-
-fn with_digit(base: u64, value: u64, digit: u64) -> Grown
-    requires { 0 < base }
+// A number with one digit more, unless it would pass 2^64 - 1.
+fn with_digit(base: u64, value: u64, digit: u64) -> Option<u64>
     ensures { result ≡ with_digit base value digit }
 {
-    if (18446744073709551615 - digit) / base < value {
-        return Grown::Over;
-    }
-    Grown::More(value * base + digit)
+    value.checked_mul(base)?.checked_add(digit)
 }
 
 fn name_with(name: u64, b: u8) -> Field
     ensures { result ≡ name_with name b }
 {
-    if !is_letter(b) {
+    if !b.is_ascii_lowercase() {
         return Field::Neither;
     }
-    match with_digit(256, name, wide(b)) {
-        Grown::More(v) => Field::Name(v),
-        Grown::Over => Field::Neither,
-    }
+    with_digit(256, name, u64::from(b)).map_or(Field::Neither, Field::Name)
 }
 
 fn number_with(value: u64, b: u8) -> Field
     ensures { result ≡ number_with value b }
 {
-    if !is_digit(b) {
+    if !b.is_ascii_digit() {
         return Field::Neither;
     }
-    match with_digit(10, value, wide(b - b'0')) {
-        Grown::More(v) => Field::Number(v),
-        Grown::Over => Field::Neither,
-    }
+    with_digit(10, value, u64::from(b - b'0')).map_or(Field::Neither, Field::Number)
 }
 
 impl Field {
@@ -129,12 +87,8 @@ impl Field {
         ensures { result ≡ grown self b }
     {
         match self {
-            Field::Empty => {
-                if is_letter(b) {
-                    return name_with(0, b);
-                }
-                number_with(0, b)
-            }
+            Field::Empty if b.is_ascii_lowercase() => name_with(0, b),
+            Field::Empty => number_with(0, b),
             Field::Name(name) => name_with(name, b),
             Field::Number(value) => number_with(value, b),
             Field::Neither => Field::Neither,
@@ -152,8 +106,7 @@ impl Line {
             Line::One(w) => Line::Two(w, field),
             Line::Two(w, x) => Line::Three(w, x, field),
             Line::Three(w, x, y) => Line::Four(w, x, y, field),
-            Line::Four(_, _, _, _) => Line::More,
-            Line::More => Line::More,
+            Line::Four(..) | Line::More => Line::More,
         }
     }
 }
@@ -173,17 +126,15 @@ impl Reader {
     pub fn next(self, b: u8) -> Reader
         ensures { result ≡ next_of self b }
     {
-        let line = self.line;
-        let field = self.field;
         if b == b' ' {
             return Reader {
-                line: line.with(field),
+                line: self.line.with(self.field),
                 field: Field::Empty,
             };
         }
         Reader {
-            line,
-            field: field.with(b),
+            line: self.line,
+            field: self.field.with(b),
         }
     }
 
@@ -193,39 +144,30 @@ impl Reader {
         ensures { ReadTo self bytes.now from result }
     {
         let mut reader = self;
-        let mut at = from;
-        while at < bytes.len() {
+        for at in from..bytes.len() {
             let b = bytes[at];
             if b == b'\n' {
                 return Read { reader, at };
             }
             reader = reader.next(b);
-            at += 1;
         }
-        Read { reader, at }
+        Read {
+            reader,
+            at: bytes.len(),
+        }
     }
 
-    // What the line asks for, if it ends here.
-    pub fn request(self) -> Request
+    // What the line asks for, if it ends here and has a form.
+    pub fn request(self) -> Option<Request>
         ensures { result ≡ request_in self }
     {
-        let line = self.line;
-        let field = self.field;
-        line.with(field).request()
+        self.line.with(self.field).request()
     }
 
     // Whether a byte of the line has come.
     pub fn begun(self) -> bool
         ensures { result ≡ begun_in self }
     {
-        let line = self.line;
-        let field = self.field;
-        let Line::Zero = line else {
-            return true;
-        };
-        let Field::Empty = field else {
-            return true;
-        };
-        false
+        !matches!((self.line, self.field), (Line::Zero, Field::Empty))
     }
 }

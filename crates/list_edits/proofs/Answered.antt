@@ -1,14 +1,15 @@
 -- What an answer of `put_at` or of `cut_out` says of the list and of its words. Assumes nothing.
-use Prim.Native.Nat.{ℕ}
 use mathlib.Core.Bool.{Bool, true, false, cond}
 use mathlib.Core.List.{List}
-use mathlib.Core.Path.{◌≡◌, refl}
+use mathlib.Core.Path.{◌≡◌, refl, sym, ap}
 use native.Mathlib.Omega.{arith}
 use Rattle.units.specs.declared.Range as units
 use Rattle.model.specs.Marks.{Range, struct}
 use Rattle.list_words.specs.declared.Chain.{Chain}
-use Rattle.list_edits.specs.inner.Chains.{chain_of, edited_number, edited}
-use Rattle.list_edits.specs.declared.ChainEdited.{ChainEdited}
+use Rattle.list_edits.specs.inner.Chains.{chain_of, chain_joined, edited_number, edited}
+use Rattle.units.specs.declared.refusals.Refusal.{Refusal}
+use Rattle.std.specs.Prelude.{Ok, Err}
+use Rattle.list_edits.specs.declared.ChainJoined.{ChainJoined}
 
 -- an edit that was done
 pub record Did (bad : Bool) (d e : Chain) (r x : units.Range) : Type 0 where
@@ -22,10 +23,12 @@ module _ (new : List Range) (r : Range) where
   edited-number true = omega arith
   edited-number false = omega arith
 
-  pub edited-refused : (bad : Bool) → edited bad new r ≡ ChainEdited.Refused → bad ≡ true
-  edited-refused true e = refl
-  edited-refused false e = let z : ◌≡◌ {A = ℕ} 0 1 = cc in absurd (omega arith)
+  pub edited-refused : (bad : Bool) (x : Refusal) → edited bad new r ≡ Err x → (bad ≡ true) × (x ≡ Refusal.Overlap)
+  edited-refused true x e = (refl, cc)
+  edited-refused false x e = absurd cc
 
-  pub edited-done : (bad : Bool) (c : Chain) (x : units.Range) → edited bad new r ≡ ChainEdited.Done c x → Did bad (chain_of new) c (struct r) x
-  edited-done true c x e = let z : ◌≡◌ {A = ℕ} 0 1 = cc in absurd (omega arith)
-  edited-done false c x e = record { good = refl; chain = cc; range = cc }
+  pub edited-done : (bad : Bool) (d : ChainJoined) → edited bad new r ≡ Ok d → Did bad (chain_of new) d.chain (struct r) d.range
+  edited-done true d e = absurd cc
+  edited-done false d e =
+      let k : chain_joined new r ≡ d = cc in
+      record { good = refl; chain = sym (ap (λ (x : ChainJoined). x.chain) k); range = sym (ap (λ (x : ChainJoined). x.range) k) }

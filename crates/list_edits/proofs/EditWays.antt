@@ -1,4 +1,4 @@
--- The ways out of the edits of a chain: a place written, a range put in or refused, and a part taken out. Assumes nothing.
+-- The ways out of the edits of a chain: a range put in or refused, and a part taken out. Assumes nothing.
 use Prim.Native.Nat.{ℕ, ◌+◌, ◌-◌}
 use mathlib.Core.Bool.{Bool, true, false}
 use mathlib.Core.List.{List, [], append-nil}
@@ -13,6 +13,7 @@ use Rattle.units.specs.declared.Size.{Size}
 use Rattle.units.specs.declared.aims.Aim.{Aim}
 use Rattle.units.specs.declared.rules.Arena.{Arena}
 use Rattle.units.proofs.Facts.{GoodRange, range-facts}
+use borrow.Author.Tests.{not-false}
 use Rattle.model.specs.inner.Lists.{overlaps}
 use Rattle.model.proofs.Places.{overlaps-front}
 use Rattle.model.proofs.Reaching.{reach, reach-none}
@@ -23,7 +24,8 @@ use Rattle.list_edits.specs.inner.Chains.{met_of, Held, may_ask, Holding, joined
 use Rattle.list_edits.specs.inner.Edits.{EditRoom, store_head, store_words}
 use Rattle.list_edits.specs.inner.Joins.{join_edit, Putting, join_done}
 use Rattle.list_edits.specs.inner.Places.{Placing, place_of}
-use Rattle.list_edits.specs.declared.ChainEdited.{ChainEdited}
+use Rattle.units.specs.declared.refusals.Refusal.{Refusal}
+use Rattle.std.specs.Prelude.{Ok, Err, Option, Some, None, is_some, not}
 use Rattle.list_edits.specs.declared.Join.{Join}
 use Rattle.list_edits.specs.declared.ChainJoined.{ChainJoined}
 use Rattle.list_edits.proofs.Cutting.{cut_edit, held_cut}
@@ -32,26 +34,9 @@ use Rattle.list_edits.proofs.Inserting.{insert-meets, Landed, landed}
 use Rattle.list_edits.proofs.Sound.{Fine, fine}
 use Rattle.list_edits.proofs.Standing.{Stand, stand}
 
--- A PLACE WRITTEN
-module _ (b : ℕ) (ws : List ℕ) (c : Chain) (y : Range) (j : Join) (v : Range) (ev : v ≡ range_of j.fresh.limit.0 j.fresh.limit.0) where
-  put_same : record { prev = j.prev; low = j.fresh; high = v; next = j.next } ≡ join_edit j
-  put_same = ap (λ (x : Range). record { prev = j.prev; low = j.fresh; high = x; next = j.next }) ev
-
-  pub put-room : Putting b (length ws) c y j → EditRoom b (length ws) (record { prev = j.prev; low = j.fresh; high = v; next = j.next })
-  put-room p = rw put_same p.room
-
-  pub put-chain : (z t : Size) → z.0 ≡ y.limit.0 - y.base.0 → t.0 ≡ c.bytes.0 + z.0 →
-      (hd : Addr) → hd ≡ store_head c.head (record { prev = j.prev; low = j.fresh; high = v; next = j.next }) →
-      record { chain = record { head = hd; ranges = c.ranges + 1 - j.joins; bytes = t }; range = j.fresh } ≡ join_done c y j
-  put-chain z t ez et hd p =
-      let e : t.0 ≡ c.bytes.0 + (y.limit.0 - y.base.0) = et ∙ ap (λ (n : ℕ). c.bytes.0 + n) ez in
-      let g : hd ≡ store_head c.head (join_edit j) = p ∙ ap (store_head c.head) put_same in
-      λ i. record { chain = record { head = g i; ranges = c.ranges + 1 - j.joins; bytes = record { 0 = e i } }; range = j.fresh }
-
-  pub put-words : (ws' : List ℕ) → ws' ≡ store_words b ws (record { prev = j.prev; low = j.fresh; high = v; next = j.next }) → ws' ≡ store_words b ws (join_edit j)
-  put-words ws' p = p ∙ ap (store_words b ws) put_same
-
-pub ruleset put-ways = (put-room, put-chain, put-words)
+turned : (r q : Bool) → q ≡ not r → r ≡ not q
+turned true q e = rw e
+turned false q e = rw e
 
 -- A RANGE PUT IN
 module _ (a : Arena) (ws : List ℕ) (c : Chain) (y : Range) (s : Spot) (k : Held a ws c (Aim.Reach y.base) s) (g : may_ask a y ≡ true) where
@@ -80,39 +65,41 @@ module _ (a : Arena) (ws : List ℕ) (c : Chain) (y : Range) (s : Spot) (k : Hel
       let f = reach-none b a.base.0 a.limit.0 met fit.apart (none-there met (reach b met) s reached r er t) in
       sym (ap (overlaps b y.limit.0) (sym (append-nil met)) ∙ overlaps-front b y.limit.0 rules.order met [] f)
 
-  module _ (j : Join) (ej : j ≡ place_of a ws y s) where
-    pub at_place : j.overlaps ≡ overlaps y.base.0 y.limit.0 (met_of a ws c)
-    at_place = ap (λ (v : Join). v.overlaps) ej ∙ sym (insert-meets a ws c fit y s rules stands)
+  module _ (o : Option Join) (eo : o ≡ place_of a ws y s) where
+    meets : not (is_some o) ≡ overlaps y.base.0 y.limit.0 (met_of a ws c)
+    meets = ap (λ (v : Option Join). not (is_some v)) eo ∙ sym (insert-meets a ws c fit y s rules stands)
 
-    pub put_refused : j.overlaps ≡ true → (ChainEdited.Refused ≡ put_of (met_of a ws c) y) × (ws ≡ put_words (met_of a ws c) y a.base.0 ws)
+    pub at_place : (r : Bool) → is_some o ≡ not r → r ≡ overlaps y.base.0 y.limit.0 (met_of a ws c)
+    at_place r e = turned r (is_some o) e ∙ meets
+
+    pub put_refused : o ≡ None → (Err Refusal.Overlap ≡ put_of (met_of a ws c) y) × (ws ≡ put_words (met_of a ws c) y a.base.0 ws)
     unfolding put_of put_words
-    put_refused f = let o = sym at_place ∙ f in (rw o, rw o)
+    put_refused f = let u : overlaps y.base.0 y.limit.0 (met_of a ws c) ≡ true = sym meets ∙ rw f in (rw u, rw u)
 
     -- it overlaps none
-    module _ (o : overlaps y.base.0 y.limit.0 (met_of a ws c) ≡ false) where
-      done : Landed a ws c fit y s rules stands j ej o
-      done = landed a ws c fit y s rules stands j ej o
+    pub join-there : overlaps y.base.0 y.limit.0 (met_of a ws c) ≡ false → is_some o ≡ true
+    join-there d = not-false (is_some o) (meets ∙ d)
 
-      pub join-putting : Putting a.base.0 (length ws) c y j
-      join-putting = done.ready
+    module _ (j : Join) (ej : o ≡ Some j) where
+      disjoint : overlaps y.base.0 y.limit.0 (met_of a ws c) ≡ false
+      disjoint = sym meets ∙ rw ej
+
+      done : Landed a ws c fit y s rules stands j (sym ej ∙ eo)
+      done = landed a ws c fit y s rules stands j (sym ej ∙ eo)
+
+      pub put-putting : Putting a.base.0 (length ws) c y j
+      put-putting = done.ready
 
       pub join-done : (w : ChainJoined) (ws' : List ℕ) → (w ≡ join_done c y j) × (ws' ≡ store_words a.base.0 ws (join_edit j)) →
           (w ≡ joined_of (met_of a ws c) y) × (ws' ≡ joined_words (met_of a ws c) y a.base.0 ws)
       join-done w ws' q = (q.0 ∙ done.gives, q.1 ∙ done.words)
 
-    module _ (f : j.overlaps ≡ false) where
-      disjoint : overlaps y.base.0 y.limit.0 (met_of a ws c) ≡ false
-      disjoint = sym at_place ∙ f
-
-      pub put-putting : Putting a.base.0 (length ws) c y j
-      put-putting = join-putting disjoint
-
       pub put-done : (w : ChainJoined) (ws' : List ℕ) → (w ≡ join_done c y j) × (ws' ≡ store_words a.base.0 ws (join_edit j)) →
-          (ChainEdited.Done w.chain w.range ≡ put_of (met_of a ws c) y) × (ws' ≡ put_words (met_of a ws c) y a.base.0 ws)
+          (Ok w ≡ put_of (met_of a ws c) y) × (ws' ≡ put_words (met_of a ws c) y a.base.0 ws)
       unfolding put_of put_words
       put-done w ws' q =
-          let d = join-done disjoint w ws' q in
-          (rw disjoint (ap (λ (v : ChainJoined). ChainEdited.Done v.chain v.range) d.0), rw disjoint d.1)
+          let d = join-done w ws' q in
+          (rw disjoint (ap (λ (v : ChainJoined). Ok v) d.0), rw disjoint d.1)
 
 -- A PART TAKEN OUT
 module _ (a : Arena) (ws : List ℕ) (c : Chain) (s : Spot) (y : Range) (k : Holding a ws c s y) (u v : Range)

@@ -7,7 +7,7 @@ use native.Mathlib.Omega.{arith}
 use lib.ListN.{length, length-append}
 use borrow.Author.Tests.{lt-ltb, le-ltb}
 use Rattle.units.specs.declared.Range as units
-use Rattle.units.specs.Words.{addr, range_of}
+use Rattle.units.specs.Words.{addr}
 use Rattle.units.specs.declared.rules.Arena.{Arena}
 use Rattle.units.proofs.Alignments.{multiple-8}
 use Rattle.units.proofs.Facts.{GoodRange}
@@ -22,7 +22,8 @@ use Rattle.list_words.specs.declared.Spot.{Spot}
 use Rattle.list_words.proofs.Laid.{Laid}
 use Rattle.list_edits.proofs.Editing.{edited, Stored, stored}
 use Rattle.list_words.specs.declared.Chain.{Chain}
-use Rattle.list_edits.specs.inner.Places.{join_of, place_of}
+use Rattle.std.specs.Prelude.{Option, Some, is_some, not}
+use Rattle.list_edits.specs.inner.Places.{place_of}
 use Rattle.list_edits.specs.inner.Joins.{join_edit, Putting, join_done}
 use Rattle.list_edits.specs.inner.Chains.{met_of, joined_of}
 use Rattle.list_edits.specs.declared.Join.{Join}
@@ -42,21 +43,20 @@ module _ (a : Arena) (ws : List ℕ) (c : Chain) (f : Fine a ws c) (y : units.Ra
   met = met_of a ws c
 
   -- whether the request overlaps a range of the list
-  pub insert-meets : overlaps y.base.0 y.limit.0 (met_of a ws c) ≡ (place_of a ws y s).overlaps
+  pub insert-meets : overlaps y.base.0 y.limit.0 (met_of a ws c) ≡ not (is_some (place_of a ws y s))
   insert-meets =
       rw t.split (overlaps-front b l rules.order t.front t.old t.below
       ∙ t.meets
       ∙ joins-meets a.base.0 t.x b l ws s.prev t.joins t.start rules.order t.lo a.limit.0 t.ups t.above t.apart t.at-ups t.over
-      ∙ ap (λ (v : Join). v.overlaps) (sym t.place))
+      ∙ ap (λ (v : Option Join). not (is_some v)) (sym t.place))
 
   -- no byte of the request is free
-  module _ (j : Join) (e : j ≡ place_of a ws y s) (disjoint : overlaps y.base.0 y.limit.0 (met_of a ws c) ≡ false) where
+  module _ (j : Join) (e : Some j ≡ place_of a ws y s) where
+    disjoint : overlaps y.base.0 y.limit.0 (met_of a ws c) ≡ false
+    disjoint = insert-meets ∙ rw (← e)
+
     joined : ChainJoined a.base.0 t.x b l ws s.prev t.joins t.ups j
-    joined =
-        let p : j ≡ join_of s.prev (range_of t.x l) t.joins t.above = e ∙ t.place in
-        let o : (join_of s.prev (range_of t.x l) t.joins t.above).overlaps ≡ false = ap (λ (v : Join). v.overlaps) (sym t.place) ∙ sym insert-meets ∙ disjoint in
-        rw p
-        (joins-free a.base.0 t.x b l ws s.prev t.joins t.start rules.order t.lo a.limit.0 t.ups t.above t.apart t.laid t.at-ups o)
+    joined = joins-free a.base.0 t.x b l ws s.prev t.joins t.start rules.order t.lo a.limit.0 t.ups t.above t.apart t.laid t.at-ups j (sym t.place ∙ sym e)
 
     fresh : Range
     fresh = plain j.fresh

@@ -1,43 +1,21 @@
 -- The ways out of the functions that find the place of a range. Assumes nothing.
-use Prim.Native.Nat.{ℕ, ◌+◌}
+use Prim.Native.Nat.{ℕ}
 use mathlib.Core.Bool.{Bool, true, false}
 use mathlib.Core.List.{List}
 use mathlib.Core.Path.{◌≡◌, sym, ap, ap₂, ◌∙◌}
-use lib.Dec.{eqb, ltb}
+use lib.Dec.{eqb}
 use borrow.Author.Tests.{eqb-true}
 use Rattle.units.specs.Words.{range_of}
 use Rattle.units.specs.declared.Range.{Range}
 use Rattle.units.specs.declared.rules.Arena.{Arena}
-use Rattle.units.specs.inner.Aims.{is_none, none_range}
+use Rattle.units.specs.inner.Aims.{none_range}
 use Rattle.list_words.specs.inner.Descriptors.{Standing, descriptor_at}
 use Rattle.list_words.specs.inner.Surveys.{spot}
 use Rattle.list_words.specs.declared.Descriptor.{Descriptor}
 use Rattle.list_words.specs.declared.Spot.{Spot}
-use Rattle.list_edits.specs.inner.Places.{Following, following_of, placed, join_of, Placing, place_of}
+use Rattle.list_edits.specs.inner.Places.{Following, following_of, join_of, Placing, place_of}
+use Rattle.std.specs.Prelude.{Option}
 use Rattle.list_edits.specs.declared.Join.{Join}
-
--- BEFORE THE RANGE ABOVE
-module _ (p f : Range) (joins : ℕ) (s : Spot) (r : Bool) (e : r ≡ eqb s.here.base.0 0) where
-  pub before-none : r ≡ true → (m : Join) → m ≡ placed p f s.next joins false → m ≡ join_of p f joins s
-  before-none t m em = rw (sym e ∙ t) em
-
-  module _ (t : r ≡ false) (u : Bool) (eu : u ≡ ltb s.here.base.0 f.limit.0) where
-    some : is_none s.here ≡ false
-    some = sym e ∙ t
-
-    pub before-overlap : u ≡ true → record { prev = p; fresh = f; next = s.next; joins = joins; overlaps = true } ≡ join_of p f joins s
-    before-overlap fu = rw (some, sym eu ∙ fu)
-
-    module _ (fu : u ≡ false) (v : Bool) (ev : v ≡ eqb s.here.base.0 f.limit.0) where
-      pub before-touching : v ≡ true → (w : Range) → w ≡ range_of f.base.0 s.here.limit.0 →
-          (m : Join) → m ≡ placed p w s.next (joins + 1) false → m ≡ join_of p f joins s
-      before-touching fv w ew m em =
-          rw (some, sym eu ∙ fu, sym ev ∙ fv) (em ∙ ap (λ (x : Range). placed p x s.next (joins + 1) false) ew)
-
-      pub before-apart : v ≡ false → (m : Join) → m ≡ placed p f s.here.base joins false → m ≡ join_of p f joins s
-      before-apart fv m em = rw (some, sym eu ∙ fu, sym ev ∙ fv) em
-
-pub ruleset before-ways = (before-none, before-overlap, before-touching, before-apart)
 
 -- THE SPOT AFTER A SPOT
 module _ (a : Arena) (ws : List ℕ) (s : Spot) (r : Bool) (e : r ≡ eqb s.next.0 0) where
@@ -56,7 +34,7 @@ module _ (a : Arena) (ws : List ℕ) (s : Spot) (r : Bool) (e : r ≡ eqb s.next
         rw (sym e ∙ t)
         (ap (λ (x : Range). spot s.here x d.next) ew ∙ ap (λ (x : Descriptor). spot s.here (range_of s.next.0 x.limit.0) x.next) ed)
 
-pub ruleset after-ways = (after_none, after-standing, after-some)
+pub ruleset after_ways = (after_none, after-standing, after-some)
 
 -- THE PLACE
 module _ (a : Arena) (ws : List ℕ) (y : Range) (s : Spot) (r : Bool) (e : r ≡ eqb s.here.limit.0 y.base.0) where
@@ -64,12 +42,12 @@ module _ (a : Arena) (ws : List ℕ) (y : Range) (s : Spot) (r : Bool) (e : r �
   place-following t p = p.following (eqb-true s.here.limit.0 y.base.0 (sym e ∙ t))
 
   pub place-touching : r ≡ true → (above : Spot) → above ≡ following_of a ws s → (w : Range) → w ≡ range_of s.here.base.0 y.limit.0 →
-      (m : Join) → m ≡ join_of s.prev w 1 above → m ≡ place_of a ws y s
+      (m : Option Join) → m ≡ join_of s.prev w 1 above → m ≡ place_of a ws y s
   unfolding place_of
   place-touching t above ea w ew m em = rw (sym e ∙ t) (em ∙ ap₂ (λ (x : Range) (v : Spot). join_of s.prev x 1 v) ew ea)
 
-  pub place_other : r ≡ false → (m : Join) → m ≡ join_of s.prev y 0 s → m ≡ place_of a ws y s
+  pub place_other : r ≡ false → (m : Option Join) → m ≡ join_of s.prev y 0 s → m ≡ place_of a ws y s
   unfolding place_of
   place_other t m em = rw (sym e ∙ t) em
 
-pub ruleset place-ways = (place-following, place-touching, place_other)
+pub ruleset place_ways = (place-following, place-touching, place_other)

@@ -16,7 +16,7 @@ ghost use Rattle.list_edits.specs.inner.Joins.{join_edit, Putting, join_done};
 ghost use Rattle.list_edits.specs.inner.Chains.{met_of, Held, may_ask, Holding, joined_of, joined_words, put_of, put_words, cut_chain, cut_words, cut_of, cut_out_words};
 
 use list_words::{Chain, Spot};
-use units::{Addr, Arena, Range};
+use units::{Addr, Arena, Range, Refusal};
 
 // What is to stand behind a range: low, then high, each if it is not empty, then the range at next.
 #[derive(Clone, Copy)]
@@ -28,29 +28,20 @@ pub struct Edit {
 }
 
 // The place of a range: behind `prev` and before the range at `next` it becomes `fresh`, joined with as many neighbours as
-// `joins` says. Where it overlaps a range of the list it has no place, and `overlaps` says so.
+// `joins` says. A range that overlaps one of the list has none.
 #[derive(Clone, Copy)]
 pub struct Join {
     pub prev: Range,
     pub fresh: Range,
     pub next: Addr,
     pub joins: u64,
-    pub overlaps: bool,
 }
 
-// A range put in: the chain afterwards, and the range that holds it.
+// A range put in or taken out: the chain afterwards, and the range that holds it, or held it before.
 #[derive(Clone, Copy)]
 pub struct ChainJoined {
     pub chain: Chain,
     pub range: Range,
-}
-
-// What a range put in or taken out gives: some byte of it is in the list already, or is not in it; or the chain afterwards,
-// and the range that holds it, or held it before.
-#[derive(Clone, Copy)]
-pub enum ChainEdited {
-    Refused,
-    Done(Chain, Range),
 }
 
 // Writes the descriptor of a range with the next range's base.
@@ -72,12 +63,11 @@ fn piece(words: &mut [u64], start: Addr, range: Range, next: Addr) -> Addr
     requires { PieceRoom start.0 (length words.old) range next.0 }
     ensures { (result ≡ piece_head range next) × (words.new ≡ piece_words start.0 words.old range next.0) }
 {
-    let base = range.base;
-    if !base.lt(range.limit) {
+    if range.limit <= range.base {
         return next;
     }
     lay(words, start, range, next);
-    base
+    range.base
 }
 
 // Writes an edit of a list with this head, and hands back the head.
@@ -85,10 +75,12 @@ fn store(words: &mut [u64], start: Addr, head: Addr, edit: Edit) -> Addr
     requires { EditRoom start.0 (length words.old) edit }
     ensures { (result ≡ store_head head edit) × (words.new ≡ store_words start.0 words.old edit) }
 {
-    let prev = edit.prev;
-    let low = edit.low;
-    let high = edit.high;
-    let next = edit.next;
+    let Edit {
+        prev,
+        low,
+        high,
+        next,
+    } = edit;
     let upper = piece(words, start, high, next);
     let first = piece(words, start, low, upper);
     if prev.base.is_zero() {
@@ -103,28 +95,28 @@ fn put(words: &mut [u64], start: Addr, chain: Chain, range: Range, place: Join) 
     requires { Putting start.0 (length words.old) chain range place }
     ensures { (result ≡ join_done chain range place) × (words.new ≡ store_words start.0 words.old (join_edit place)) }
 {
-    let prev = place.prev;
-    let low = place.fresh;
-    let next = place.next;
-    let limit = low.limit;
-    let high = Range::new(limit, limit);
+    let Join {
+        prev,
+        fresh,
+        next,
+        joins,
+    } = place;
     let edit = Edit {
         prev,
-        low,
-        high,
+        low: fresh,
+        high: Range::new(fresh.limit, fresh.limit),
         next,
     };
     let bytes = chain.bytes.plus(range.size());
-    let ranges = chain.ranges + 1 - place.joins;
+    let ranges = chain.ranges + 1 - joins;
     let head = store(words, start, chain.head, edit);
-    let after = Chain {
-        head,
-        ranges,
-        bytes,
-    };
     ChainJoined {
-        chain: after,
-        range: low,
+        chain: Chain {
+            head,
+            ranges,
+            bytes,
+        },
+        range: fresh,
     }
 }
 
@@ -142,7 +134,7 @@ pub fn join_at(
     requires chain_value { overlaps range.base.0 range.limit.0 (met_of arena words.old chain) ≡ false }
     ensures { (result ≡ joined_of (met_of arena words.old chain) range) × (words.new ≡ joined_words (met_of arena words.old chain) range arena.base.0 words.old) }
 {
-    let place = placing::place(arena, words, range, spot);
+    let place = placing::place(arena, words, range, spot).unwrap();
     put(words, arena.base, chain, range, place)
 }
 
@@ -153,19 +145,15 @@ pub fn put_at(
     chain: Chain,
     range: Range,
     spot: Spot,
-) -> ChainEdited
+) -> Result<ChainJoined, Refusal>
     requires held { Held arena words.old chain (Aim.Reach range.base) spot }
     requires range_value { may_ask arena range ≡ true }
     ensures { (result ≡ put_of (met_of arena words.old chain) range) × (words.new ≡ put_words (met_of arena words.old chain) range arena.base.0 words.old) }
 {
-    let place = placing::place(arena, words, range, spot);
-    if place.overlaps {
-        return ChainEdited::Refused;
-    }
-    let done = put(words, arena.base, chain, range, place);
-    let after = done.chain;
-    let fresh = done.range;
-    ChainEdited::Done(after, fresh)
+    let Some(place) = placing::place(arena, words, range, spot) else {
+        return Err(Refusal::Overlap);
+    };
+    Ok(put(words, arena.base, chain, range, place))
 }
 
 // Whether a range overlaps one of a sound list, by the first range that reaches its base. Where none does, none overlaps.
@@ -177,8 +165,7 @@ pub fn overlaps_at(arena: Arena, words: &[u64], chain: Chain, range: Range, spot
     if spot.here.base.is_zero() {
         return false;
     }
-    let place = placing::place(arena, words, range, spot);
-    place.overlaps
+    placing::place(arena, words, range, spot).is_none()
 }
 
 // Takes a part out of the range at a spot of a sound list, and hands back the chain of what is left.
@@ -186,9 +173,7 @@ pub fn cut_at(arena: Arena, words: &mut [u64], chain: Chain, spot: Spot, part: R
     requires { Holding arena words.old chain spot part }
     ensures { (result ≡ cut_chain (met_of arena words.old chain) part) × (words.new ≡ cut_words (met_of arena words.old chain) part arena.base.0 words.old) }
 {
-    let prev = spot.prev;
-    let here = spot.here;
-    let next = spot.next;
+    let Spot { prev, here, next } = spot;
     let low = Range::new(here.base, part.base);
     let high = Range::new(part.limit, here.limit);
     let edit = Edit {
@@ -207,25 +192,29 @@ pub fn cut_at(arena: Arena, words: &mut [u64], chain: Chain, spot: Spot, part: R
     }
 }
 
-// Takes a range out of the range of a sound list that holds it, at the first range that reaches its limit.
+// Takes a range out of the range of a sound list that holds it, at the first range that reaches its limit. Where none holds it
+// it is refused.
 pub fn cut_out(
     arena: Arena,
     words: &mut [u64],
     chain: Chain,
     range: Range,
     spot: Spot,
-) -> ChainEdited
+) -> Result<ChainJoined, Refusal>
     requires held { Held arena words.old chain (Aim.Reach range.limit) spot }
     requires range_value { may_ask arena range ≡ true }
     ensures { (result ≡ cut_of (met_of arena words.old chain) range) × (words.new ≡ cut_out_words (met_of arena words.old chain) range arena.base.0 words.old) }
 {
     let here = spot.here;
     if here.base.is_zero() {
-        return ChainEdited::Refused;
+        return Err(Refusal::Overlap);
     }
-    if range.base.lt(here.base) {
-        return ChainEdited::Refused;
+    if range.base < here.base {
+        return Err(Refusal::Overlap);
     }
     let left = cut_at(arena, words, chain, spot, range);
-    ChainEdited::Done(left, here)
+    Ok(ChainJoined {
+        chain: left,
+        range: here,
+    })
 }

@@ -1,5 +1,5 @@
 // The place of a range in a sound list, joined with the ranges that it touches.
-ghost use Rattle.std.specs.Prelude.{false, ◌≡◌, ◌≤◌};
+ghost use Rattle.std.specs.Prelude.{◌≡◌, ◌≤◌, Some};
 ghost use Rattle.list_edits.specs.inner.Places.{Following, following_of, placed, join_of, Placing, place_of};
 
 use crate::Join;
@@ -7,45 +7,38 @@ use list_words::Spot;
 use units::{Addr, Arena, Range};
 
 // A place where the range overlaps none.
-fn free(prev: Range, fresh: Range, next: Addr, joins: u64) -> Join
-    ensures { result ≡ placed prev fresh next joins false }
+fn free(prev: Range, fresh: Range, next: Addr, joins: u64) -> Option<Join>
+    ensures { result ≡ Some (placed prev fresh next joins) }
 {
-    Join {
+    Some(Join {
         prev,
         fresh,
         next,
         joins,
-        overlaps: false,
-    }
+    })
 }
 
-// The place of a fresh range before the range above it, which may touch it or overlap it.
-fn place_before(prev: Range, fresh: Range, joins: u64, above: Spot) -> Join
+// The place of a fresh range before the range above it, which may touch it; none where it overlaps it.
+fn place_before(prev: Range, fresh: Range, joins: u64, above: Spot) -> Option<Join>
     requires { joins ≤ 1 }
     ensures { result ≡ join_of prev fresh joins above }
 {
-    let up = above.here;
-    let next = above.next;
+    let Spot { here: up, next, .. } = above;
     let base = up.base;
     if base.is_zero() {
         return free(prev, fresh, next, joins);
     }
-    if base.lt(fresh.limit) {
-        return Join {
-            prev,
-            fresh,
-            next,
-            joins,
-            overlaps: true,
-        };
+    if base < fresh.limit {
+        return None;
     }
-    if base.same(fresh.limit) {
+    if base == fresh.limit {
         return free(prev, Range::new(fresh.base, up.limit), next, joins + 1);
     }
     free(prev, fresh, base, joins)
 }
 
 // The spot after a spot of a sound list.
+#[tactic(auto, using(crate::proofs::PlaceWays::after_ways))]
 fn following(arena: Arena, words: &[u64], spot: Spot) -> Spot
     requires { Following arena words.now spot }
     ensures { result ≡ following_of arena words.now spot }
@@ -65,14 +58,14 @@ fn following(arena: Arena, words: &[u64], spot: Spot) -> Spot
     Spot { prev, here, next }
 }
 
-// The place of a range at the first range of a sound list that reaches its base.
-pub(crate) fn place(arena: Arena, words: &[u64], range: Range, spot: Spot) -> Join
+// The place of a range at the first range of a sound list that reaches its base; none where it overlaps one.
+#[tactic(auto, using(crate::proofs::PlaceWays::place_ways))]
+pub(crate) fn place(arena: Arena, words: &[u64], range: Range, spot: Spot) -> Option<Join>
     requires { Placing arena words.now range spot }
     ensures { result ≡ place_of arena words.now range spot }
 {
-    let prev = spot.prev;
-    let here = spot.here;
-    if here.limit.same(range.base) {
+    let Spot { prev, here, .. } = spot;
+    if here.limit == range.base {
         let above = following(arena, words, spot);
         let fresh = Range::new(here.base, range.limit);
         return place_before(prev, fresh, 1, above);

@@ -12,7 +12,10 @@ use Rattle.model.proofs.lands.EditAnswers.{Edits, insert-edits, delete-edits}
 use Rattle.list_words.specs.declared.Spot.{Spot}
 use Rattle.list_words.specs.declared.Chain.{Chain}
 use Rattle.list_edits.specs.inner.Chains.{met_of, Held, may_ask, edited_number, edited, edited_words, put_of, put_words, cut_of, cut_out_words}
-use Rattle.list_edits.specs.declared.ChainEdited.{ChainEdited}
+use Rattle.units.specs.declared.refusals.Refusal.{Refusal}
+use Rattle.units.specs.Rules.{refusal_number}
+use Rattle.std.specs.Prelude.{Result, Ok, Err}
+use Rattle.list_edits.specs.declared.ChainJoined.{ChainJoined}
 use Rattle.list_edits.proofs.Answered.{edited-number, edited-refused, edited-done}
 use Rattle.list_land.specs.Calls.{does, inserted, deleted, changed}
 use Rattle.list_land.specs.Layout.{base, arena_of, walk_of, closed_with}
@@ -24,17 +27,17 @@ use Rattle.list_land.proofs.Requests.{looked-held, closes}
 
 -- EITHER EDIT
 module _ (h : ListLand) (ws : List ℕ) (aim : Aim) (s : Spot) (k : Looked h ws aim s) (c : Call) (E : Edits (arena_of h) (walk_of h ws).met c) (g : E.good ≡ true) where
-  module _ (p : ChainEdited) (vs : List ℕ) (e : (p ≡ edited E.bad E.new E.holds-it) × (vs ≡ edited_words E.bad E.new (base h) ws)) where
-    edit-1 : p ≡ ChainEdited.Refused → (w : Changed) → w ≡ refused_by h 1 → (w ≡ changed (does c h ws)) × (vs ≡ (does c h ws).words)
-    edit-1 f w d =
-        let o = edited-refused E.new E.holds-it E.bad (sym e.0 ∙ f) in
-        answers.edit-1 list_land h ws aim s k c E g o w d vs (e.1 ∙ rw o)
+  module _ (p : Result ChainJoined Refusal) (vs : List ℕ) (e : (p ≡ edited E.bad E.new E.holds-it) × (vs ≡ edited_words E.bad E.new (base h) ws)) where
+    edit-1 : (x : Refusal) → p ≡ Err x → (w : Changed) → w ≡ refused_by h (refusal_number x) → (w ≡ changed (does c h ws)) × (vs ≡ (does c h ws).words)
+    edit-1 x f w d =
+        let o = edited-refused E.new E.holds-it E.bad x (sym e.0 ∙ f) in
+        answers.edit-1 list_land h ws aim s k c E g o.0 w (rw o.1 at d) vs (e.1 ∙ rw o.0)
 
-    edit-0 : (n : Chain) (x : Range) → p ≡ ChainEdited.Done n x → (z : ListLand) → z ≡ closed_with h n.head n.ranges n.bytes →
-        (record { land = z; answer = 0; range = x } ≡ changed (does c h ws)) × (vs ≡ (does c h ws).words)
-    edit-0 n x f z ez =
-        let o = edited-done E.new E.holds-it E.bad n x (sym e.0 ∙ f) in
-        answers.edit-0 list_land h ws aim s k c E g o.good refl z (closes h E.new n o.chain z ez) x o.range vs (e.1 ∙ rw o.good)
+    edit-0 : (d : ChainJoined) → p ≡ Ok d → (z : ListLand) → z ≡ closed_with h d.chain.head d.chain.ranges d.chain.bytes →
+        (record { land = z; answer = 0; range = d.range } ≡ changed (does c h ws)) × (vs ≡ (does c h ws).words)
+    edit-0 d f z ez =
+        let o = edited-done E.new E.holds-it E.bad d (sym e.0 ∙ f) in
+        answers.edit-0 list_land h ws aim s k c E g o.good refl z (closes h E.new d.chain o.chain z ez) d.range o.range vs (e.1 ∙ rw o.good)
 
   -- the number of an edit is the answer
   number_is : edited_number (edited E.bad E.new E.holds-it) ≡ (changed (does c h ws)).answer
@@ -50,16 +53,16 @@ module _ (h : ListLand) (ws : List ℕ) (y : Range) (s : Spot) (k : Looked h ws 
     pub insert-asks : Held a ws c (reach_base y) s × (may_ask a y ≡ true)
     insert-asks = (looked-held h ws (reach_base y) s k a ea c ec, rw ea g)
 
-    module _ (p : ChainEdited) (vs : List ℕ) (e : (p ≡ put_of (met_of a ws c) y) × (vs ≡ put_words (met_of a ws c) y a.base.0 ws)) where
+    module _ (p : Result ChainJoined Refusal) (vs : List ℕ) (e : (p ≡ put_of (met_of a ws c) y) × (vs ≡ put_words (met_of a ws c) y a.base.0 ws)) where
       put_is : (p ≡ edited inserts.bad inserts.new inserts.holds-it) × (vs ≡ edited_words inserts.bad inserts.new (base h) ws)
       unfolding put_of put_words
       put_is = rw (ea, ec) at e
 
-      pub insert-1 : p ≡ ChainEdited.Refused → (w : Changed) → w ≡ refused_by h 1 → (w ≡ changed (inserted h ws y)) × (vs ≡ (inserted h ws y).words)
+      pub insert-1 : (x : Refusal) → p ≡ Err x → (w : Changed) → w ≡ refused_by h (refusal_number x) → (w ≡ changed (inserted h ws y)) × (vs ≡ (inserted h ws y).words)
       insert-1 = edit-1 h ws (reach_base y) s k _ inserts g p vs put_is
 
-      pub insert-0 : (n : Chain) (x : Range) → p ≡ ChainEdited.Done n x → (z : ListLand) → z ≡ closed_with h n.head n.ranges n.bytes →
-          (record { land = z; answer = 0; range = x } ≡ changed (inserted h ws y)) × (vs ≡ (inserted h ws y).words)
+      pub insert-0 : (d : ChainJoined) → p ≡ Ok d → (z : ListLand) → z ≡ closed_with h d.chain.head d.chain.ranges d.chain.bytes →
+          (record { land = z; answer = 0; range = d.range } ≡ changed (inserted h ws y)) × (vs ≡ (inserted h ws y).words)
       insert-0 = edit-0 h ws (reach_base y) s k _ inserts g p vs put_is
 
   pub insert-number : edited_number (put_of (walk_of h ws).met y) ≡ (changed (inserted h ws y)).answer
@@ -76,16 +79,16 @@ module _ (h : ListLand) (ws : List ℕ) (y : Range) (s : Spot) (k : Looked h ws 
     pub delete-asks : Held a ws c (reach_limit y) s × (may_ask a y ≡ true)
     delete-asks = (looked-held h ws (reach_limit y) s k a ea c ec, rw ea g)
 
-    module _ (p : ChainEdited) (vs : List ℕ) (e : (p ≡ cut_of (met_of a ws c) y) × (vs ≡ cut_out_words (met_of a ws c) y a.base.0 ws)) where
+    module _ (p : Result ChainJoined Refusal) (vs : List ℕ) (e : (p ≡ cut_of (met_of a ws c) y) × (vs ≡ cut_out_words (met_of a ws c) y a.base.0 ws)) where
       cut-is : (p ≡ edited deletes.bad deletes.new deletes.holds-it) × (vs ≡ edited_words deletes.bad deletes.new (base h) ws)
       unfolding cut_of cut_out_words
       cut-is = rw (ea, ec) at e
 
-      pub delete-1 : p ≡ ChainEdited.Refused → (w : Changed) → w ≡ refused_by h 1 → (w ≡ changed (deleted h ws y)) × (vs ≡ (deleted h ws y).words)
+      pub delete-1 : (x : Refusal) → p ≡ Err x → (w : Changed) → w ≡ refused_by h (refusal_number x) → (w ≡ changed (deleted h ws y)) × (vs ≡ (deleted h ws y).words)
       delete-1 = edit-1 h ws (reach_limit y) s k _ deletes g p vs cut-is
 
-      pub delete-0 : (n : Chain) (x : Range) → p ≡ ChainEdited.Done n x → (z : ListLand) → z ≡ closed_with h n.head n.ranges n.bytes →
-          (record { land = z; answer = 0; range = x } ≡ changed (deleted h ws y)) × (vs ≡ (deleted h ws y).words)
+      pub delete-0 : (d : ChainJoined) → p ≡ Ok d → (z : ListLand) → z ≡ closed_with h d.chain.head d.chain.ranges d.chain.bytes →
+          (record { land = z; answer = 0; range = d.range } ≡ changed (deleted h ws y)) × (vs ≡ (deleted h ws y).words)
       delete-0 = edit-0 h ws (reach_limit y) s k _ deletes g p vs cut-is
 
   pub delete-number : edited_number (cut_of (walk_of h ws).met y) ≡ (changed (deleted h ws y)).answer

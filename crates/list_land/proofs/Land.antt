@@ -1,6 +1,6 @@
 -- The list land, as the laws on answers of `model` take it. Assumes nothing.
 use Prim.Native.Nat.{ℕ}
-use mathlib.Core.Bool.{Bool, cond, ◌&&◌}
+use mathlib.Core.Bool.{Bool, ◌&&◌}
 use mathlib.Core.List.{List}
 use mathlib.Core.Option.{Option, none, some}
 use mathlib.Core.Path.{◌≡◌, refl}
@@ -14,6 +14,7 @@ use Rattle.model.specs.Calls.{Call}
 use Rattle.model.specs.Lands.{land_call}
 use Rattle.model.specs.Layouts.{reading}
 use Rattle.model.specs.Marks.{Range}
+use Rattle.model.specs.inner.Looks as model
 use Rattle.model.specs.inner.Picks.{here_of}
 use Rattle.model.proofs.Aiming.{pick-by}
 use Rattle.model.proofs.lands.Land.{Land, check-of}
@@ -24,11 +25,10 @@ use Rattle.list_words.proofs.Keeping.{SpotOf, kept-placed}
 use Rattle.list_words.proofs.Laid.{lay-laid}
 use Rattle.list_land.specs.Calls.{does}
 use Rattle.list_land.specs.Layout.{base, limit, set_up, walk_of, sound, read_of, layout}
-use Rattle.list_land.specs.inner.Parts.{arena_in, look_number, aim_in, look_of}
+use Rattle.list_land.specs.inner.Parts.{arena_in, aim_in, look_of}
 use Rattle.list_land.specs.declared.Changed.{Changed}
 use Rattle.list_land.specs.declared.Found.{Found}
 use Rattle.list_land.specs.declared.ListLand.{ListLand}
-use Rattle.list_land.specs.declared.Look.{Look}
 use Rattle.list_land.proofs.LayoutLaws.{list-laws}
 use Rattle.list_land.proofs.Sound.{fine}
 
@@ -53,7 +53,7 @@ unfolding read_of
 reads_as h ws = refl
 
 pub looks : (h : ListLand) (ws : List ℕ) (aim : Aim) →
-    look_of h ws aim ≡ cond (set_up h ws) (cond (sound h ws) (Look.Sound (kept_of (aim_in h aim) (walk_of h ws).met)) Look.Damaged) Look.BadSetUp
+    look_of h ws aim ≡ model.look_of (set_up h ws) (sound h ws) (kept_of (aim_in h aim) (walk_of h ws).met)
 unfolding look_of
 looks h ws aim = refl
 
@@ -61,10 +61,7 @@ pub placed-here : (rs : List Range) (o : Option Range) (s : Spot) → SpotOf rs 
 placed-here rs none s p = p.here
 placed-here rs (some q) s p = p.here
 
-pub same : (s t : Spot) → Look.Sound s ≡ Look.Sound t → s ≡ t
-same s t e = cc
-
-abbrev pub list_land : Land ListLand Look Spot Changed Found
+abbrev pub list_land : Land ListLand Spot Changed Found
 list_land = record {
   layout = layout;
   lent = λ h ws. eqb (word_number (base h) (limit h)) (length ws);
@@ -74,10 +71,6 @@ list_land = record {
   bytes = λ h. h.bytes;
   ranges = λ h ws. (walk_of h ws).met;
   arena-in = arena_in;
-  bad = Look.BadSetUp;
-  damaged = Look.Damaged;
-  whole = λ s. Look.Sound s;
-  number = look_number;
   look = look_of;
   aimed = aim_in;
   keep = kept_of;
@@ -91,10 +84,6 @@ list_land = record {
   sound-is = sound-is;
   reads = reads_as;
   arena-is = λ h ws. refl;
-  number-bad = refl;
-  number-damaged = refl;
-  number-whole = λ s. refl;
-  same = same;
   looks = looks;
   aims-from = λ h x. refl;
   keeps = λ aim lo hi rs z a. placed-here rs (pick-by aim none rs) (kept_of aim rs) (kept-placed aim lo hi rs z a);

@@ -1,12 +1,12 @@
 -- What the calls of the list land equal. Assumes nothing.
 use Rattle.std.specs.Prelude.{ℕ, cond, List}
 use Rattle.units.specs.LowWater.{unset}
-use Rattle.units.specs.Rules.{set_up_number}
+use Rattle.units.specs.Rules.{refusal_number}
 use Rattle.units.specs.Words.{addr}
 use Rattle.units.specs.declared.Mode.{Mode}
 use Rattle.units.specs.declared.Range.{Range}
 use Rattle.units.specs.declared.Which.{Which}
-use Rattle.units.specs.declared.rules.SetUp.{SetUp}
+use Rattle.units.specs.declared.refusals.Refusal.{Refusal}
 use Rattle.model.specs.Calls.{Call, Outcome, insert, delete, find, walk}
 use Rattle.model.specs.Layouts.{Done}
 use Rattle.model.specs.Lands.{land_call}
@@ -61,4 +61,4 @@ unfoldable pub opened_of : ℕ → ℕ → ℕ → List ℕ → Opened
 opened_of b l a ws =
     cond (set_up (new_land b l a) ws)
     (record { land = new_land b l a; answer = 0 })
-    (record { land = new_land 0 0 0; answer = set_up_number SetUp.Bad })
+    (record { land = new_land 0 0 0; answer = refusal_number Refusal.SetUp })

@@ -3,10 +3,9 @@ ghost use Rattle.std.specs.Prelude.{◌≡◌};
 ghost use Rattle.list_land.specs.Calls.{changed, deleted};
 ghost use Rattle.list_land.specs.inner.Parts.{Looked, reach_limit};
 
-use crate::{Changed, ListLand, Look, refused};
-use list_edits::ChainEdited;
+use crate::{Changed, ListLand, refused};
 use list_words::Spot;
-use units::{Aim, Range, RangeCheck};
+use units::{Aim, Range, Refusal};
 
 impl ListLand {
     // Delete from a sound list, at the first range that reaches the limit of the request.
@@ -15,18 +14,19 @@ impl ListLand {
         ensures { (result ≡ changed (deleted self words.old range)) × (words.new ≡ (deleted self words.old range).words) }
     {
         let arena = self.good_arena();
-        let RangeCheck::Good = arena.check_range(range) else {
-            return refused(self, 4);
+        let Ok(()) = arena.check_range(range) else {
+            return refused(self, Refusal::Request);
         };
-        let ChainEdited::Done(c, old) = list_edits::cut_out(arena, words, self.chain(), range, spot)
-        else {
-            return refused(self, 1);
-        };
-        let chain = c;
-        Changed {
-            land: self.close(chain.head, chain.ranges, chain.bytes),
-            answer: 0,
-            range: old,
+        match list_edits::cut_out(arena, words, self.chain(), range, spot) {
+            Err(overlap) => refused(self, overlap),
+            Ok(edited) => {
+                let chain = edited.chain;
+                Changed {
+                    land: self.close(chain.head, chain.ranges, chain.bytes),
+                    answer: 0,
+                    range: edited.range,
+                }
+            }
         }
     }
 
@@ -34,14 +34,9 @@ impl ListLand {
     pub fn delete(self, words: &mut [u64], range: Range) -> Changed
         ensures { (result ≡ changed (deleted self words.old range)) × (words.new ≡ (deleted self words.old range).words) }
     {
-        let limit = range.limit;
-        match self.look(words, Aim::Reach(limit)) {
-            Look::BadSetUp => refused(self, 5),
-            Look::Damaged => refused(self, 6),
-            Look::Sound(s) => {
-                let spot = s;
-                self.delete_at(words, range, spot)
-            }
+        match self.look(words, Aim::Reach(range.limit)) {
+            Err(refusal) => refused(self, refusal),
+            Ok(spot) => self.delete_at(words, range, spot),
         }
     }
 }

@@ -1,19 +1,20 @@
 // The three finds: the range chosen, the part of it that is found, and its removal.
 ghost use Rattle.std.specs.Prelude.{◌≡◌};
+ghost use Rattle.units.specs.Rules.{refusal_number};
 ghost use Rattle.units.specs.declared.aims.Aim.{Aim as Aim·};
 ghost use Rattle.list_land.specs.Calls.{found_of, found};
 ghost use Rattle.list_land.specs.inner.Parts.{Looked, aim_in, found_none};
 
-use crate::{Found, ListLand, Look};
+use crate::{Found, ListLand};
 use list_words::Spot;
-use units::{Aim, Mode, Range, Size, SizeCheck, Which};
+use units::{Aim, Mode, Range, Refusal, Size, Which};
 
-fn none_found(land: ListLand, answer: u64) -> Found
-    ensures { result ≡ found_none land answer }
+fn none_found(land: ListLand, refusal: Refusal) -> Found
+    ensures { result ≡ found_none land (refusal_number refusal) }
 {
     Found {
         land,
-        answer,
+        answer: refusal.number(),
         range: Range::none(),
         old: Range::none(),
     }
@@ -26,12 +27,12 @@ impl ListLand {
         ensures { (result ≡ found_of (found self words.old which size.0 mode)) × (words.new ≡ (found self words.old which size.0 mode).words) }
     {
         let arena = self.good_arena();
-        let SizeCheck::Good = arena.check_find(which, size) else {
-            return none_found(self, 4);
+        let Ok(()) = arena.check_find(which, size) else {
+            return none_found(self, Refusal::Request);
         };
         let here = spot.here;
         if here.base.is_zero() {
-            return none_found(self, 2);
+            return none_found(self, Refusal::NoneFound);
         }
         let part = finds::part(which, mode, arena.find_size(size), here);
         if let Mode::None = mode {
@@ -56,12 +57,8 @@ impl ListLand {
         ensures { (result ≡ found_of (found self words.old which size.0 mode)) × (words.new ≡ (found self words.old which size.0 mode).words) }
     {
         match self.look(words, Aim::Find(which, size)) {
-            Look::BadSetUp => none_found(self, 5),
-            Look::Damaged => none_found(self, 6),
-            Look::Sound(s) => {
-                let spot = s;
-                self.find_at(words, which, size, mode, spot)
-            }
+            Err(refusal) => none_found(self, refusal),
+            Ok(spot) => self.find_at(words, which, size, mode, spot),
         }
     }
 

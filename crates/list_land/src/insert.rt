@@ -3,10 +3,9 @@ ghost use Rattle.std.specs.Prelude.{◌≡◌};
 ghost use Rattle.list_land.specs.Calls.{changed, inserted};
 ghost use Rattle.list_land.specs.inner.Parts.{Looked, reach_base};
 
-use crate::{Changed, ListLand, Look, refused};
-use list_edits::ChainEdited;
+use crate::{Changed, ListLand, refused};
 use list_words::Spot;
-use units::{Aim, Range, RangeCheck};
+use units::{Aim, Range, Refusal};
 
 impl ListLand {
     // Insert in a sound list, at the first range that reaches the base of the request.
@@ -15,23 +14,19 @@ impl ListLand {
         ensures { (result ≡ changed (inserted self words.old range)) × (words.new ≡ (inserted self words.old range).words) }
     {
         let arena = self.good_arena();
-        let RangeCheck::Good = arena.check_range(range) else {
-            return refused(self, 4);
+        let Ok(()) = arena.check_range(range) else {
+            return refused(self, Refusal::Request);
         };
-        let ChainEdited::Done(c, fresh) = list_edits::put_at(
-            arena,
-            words,
-            self.chain(),
-            range,
-            spot,
-        ) else {
-            return refused(self, 1);
-        };
-        let chain = c;
-        Changed {
-            land: self.close(chain.head, chain.ranges, chain.bytes),
-            answer: 0,
-            range: fresh,
+        match list_edits::put_at(arena, words, self.chain(), range, spot) {
+            Err(overlap) => refused(self, overlap),
+            Ok(edited) => {
+                let chain = edited.chain;
+                Changed {
+                    land: self.close(chain.head, chain.ranges, chain.bytes),
+                    answer: 0,
+                    range: edited.range,
+                }
+            }
         }
     }
 
@@ -39,14 +34,9 @@ impl ListLand {
     pub fn insert(self, words: &mut [u64], range: Range) -> Changed
         ensures { (result ≡ changed (inserted self words.old range)) × (words.new ≡ (inserted self words.old range).words) }
     {
-        let base = range.base;
-        match self.look(words, Aim::Reach(base)) {
-            Look::BadSetUp => refused(self, 5),
-            Look::Damaged => refused(self, 6),
-            Look::Sound(s) => {
-                let spot = s;
-                self.insert_at(words, range, spot)
-            }
+        match self.look(words, Aim::Reach(range.base)) {
+            Err(refusal) => refused(self, refusal),
+            Ok(spot) => self.insert_at(words, range, spot),
         }
     }
 }

@@ -10,14 +10,14 @@ mod insert;
 mod open;
 
 ghost use Rattle.std.specs.Prelude.{true, ◌≡◌};
-ghost use Rattle.units.specs.Rules.{good_align};
+ghost use Rattle.units.specs.Rules.{refusal_number, good_align};
 ghost use Rattle.units.specs.inner.Parts.{set_up_of};
 ghost use Rattle.list_land.specs.Layout.{set_up, closed_with};
 ghost use Rattle.list_land.specs.Calls.{changed, walked};
-ghost use Rattle.list_land.specs.inner.Parts.{arena_in, chain_in, look_number, look_of, refused_by};
+ghost use Rattle.list_land.specs.inner.Parts.{arena_in, chain_in, look_of, refused_by};
 
-use list_words::{Chain, Spot, Verdict};
-use units::{Addr, Aim, Align, Arena, ArenaCheck, LowWater, Range, SetUp, Size, Soundness};
+use list_words::{Chain, Spot};
+use units::{Addr, Aim, Align, Arena, LowWater, Range, Refusal, Size};
 
 // The handle of a list land: its arena, the first range's base (or 0), the number of ranges and of free bytes, the mark and low
 // water.
@@ -60,33 +60,12 @@ pub struct Found {
     pub old: Range,
 }
 
-// What a call finds before it looks at its request: a bad set-up, a list that is not sound, or the range aimed at.
-#[derive(Clone, Copy)]
-pub enum Look {
-    BadSetUp,
-    Damaged,
-    Sound(Spot),
-}
-
-impl Look {
-    // Document 01's number of what was found: 5, 6, or 0.
-    pub fn number(self) -> u64
-        ensures { result ≡ look_number self }
-    {
-        match self {
-            Look::BadSetUp => 5,
-            Look::Damaged => 6,
-            Look::Sound(_) => 0,
-        }
-    }
-}
-
-fn refused(land: ListLand, answer: u64) -> Changed
-    ensures { result ≡ refused_by land answer }
+fn refused(land: ListLand, refusal: Refusal) -> Changed
+    ensures { result ≡ refused_by land (refusal_number refusal) }
 {
     Changed {
         land,
-        answer,
+        answer: refusal.number(),
         range: Range::none(),
     }
 }
@@ -96,9 +75,12 @@ impl ListLand {
     pub fn arena(self) -> Arena
         ensures { result ≡ arena_in self }
     {
-        let base = self.base;
-        let limit = self.limit;
-        let align = self.align;
+        let ListLand {
+            base,
+            limit,
+            align,
+            ..
+        } = self;
         Arena { base, limit, align }
     }
 
@@ -122,63 +104,51 @@ impl ListLand {
     pub fn chain(self) -> Chain
         ensures { result ≡ chain_in self }
     {
-        let head = self.head;
-        let bytes = self.bytes;
         Chain {
-            head,
+            head: self.head,
             ranges: self.ranges,
-            bytes,
+            bytes: self.bytes,
         }
     }
 
     // Whether the fixed fields keep the arena rules and the arena is lent whole.
-    pub fn set_up(self, words: &[u64]) -> SetUp
+    pub fn set_up(self, words: &[u64]) -> Result<(), Refusal>
         ensures { result ≡ set_up_of (set_up self words.now) }
     {
-        let ArenaCheck::Good = self.arena().check() else {
-            return SetUp::Bad;
+        let Ok(()) = self.arena().check() else {
+            return Err(Refusal::SetUp);
         };
         if self.limit.word_from(self.base) == words.len() {
-            SetUp::Good
+            Ok(())
         } else {
-            SetUp::Bad
+            Err(Refusal::SetUp)
         }
     }
 
-    // Low water, and the one walk of a call, for what it asks.
-    pub fn look(self, words: &[u64], aim: Aim) -> Look
+    // What a call finds before it looks at its request: the set-up, low water, and by the one walk the range aimed at.
+    pub fn look(self, words: &[u64], aim: Aim) -> Result<Spot, Refusal>
         ensures { result ≡ look_of self words.now aim }
     {
-        let SetUp::Good = self.set_up(words) else {
-            return Look::BadSetUp;
-        };
-        let water = self.water;
-        let Soundness::Sound = water.check(self.bytes) else {
-            return Look::Damaged;
-        };
+        self.set_up(words)?;
+        self.water.check(self.bytes)?;
         let arena = self.walk_arena();
-        match list_words::survey(arena, words, self.chain(), arena.aim_of(aim)) {
-            Verdict::Damaged => Look::Damaged,
-            Verdict::Sound(spot) => Look::Sound(spot),
-        }
+        // Taken apart and made anew: handed on as it is, its fields would be set in every turn of the walk.
+        let spot = list_words::survey(arena, words, self.chain(), arena.aim_of(aim))?;
+        Ok(spot)
     }
 
     // The next handle of every accepted call, in which the number of free bytes is noted.
     pub fn close(self, head: Addr, ranges: u64, bytes: Size) -> ListLand
         ensures { result ≡ closed_with self head ranges bytes }
     {
-        let base = self.base;
-        let limit = self.limit;
-        let align = self.align;
-        let water = self.water.noted(bytes);
         ListLand {
-            base,
-            limit,
-            align,
+            base: self.base,
+            limit: self.limit,
+            align: self.align,
             head,
             ranges,
             bytes,
-            water,
+            water: self.water.noted(bytes),
         }
     }
 
@@ -187,12 +157,11 @@ impl ListLand {
         ensures { (result ≡ changed (walked self words.now from.0)) × (words.now ≡ (walked self words.now from.0).words) }
     {
         match self.look(words, Aim::From(from)) {
-            Look::BadSetUp => refused(self, 5),
-            Look::Damaged => refused(self, 6),
-            Look::Sound(spot) => {
+            Err(refusal) => refused(self, refusal),
+            Ok(spot) => {
                 let here = spot.here;
                 if here.base.is_zero() {
-                    return refused(self, 2);
+                    return refused(self, Refusal::NoneFound);
                 }
                 Changed {
                     land: self,

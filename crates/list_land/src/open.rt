@@ -3,7 +3,7 @@ ghost use Rattle.std.specs.Prelude.{◌≡◌};
 ghost use Rattle.list_land.specs.Calls.{new_land, opened_of};
 
 use crate::{ListLand, Opened};
-use units::{Addr, Align, LowWater, SetUp, Size};
+use units::{Addr, Align, LowWater, Size};
 
 // The handle of a land with no ranges.
 fn new_land(base: Addr, limit: Addr, align: Align) -> ListLand
@@ -26,13 +26,13 @@ impl ListLand {
         ensures { result ≡ opened_of base.0 limit.0 align.0 words.now }
     {
         let land = new_land(base, limit, align);
-        let SetUp::Good = land.set_up(words) else {
+        if let Err(refusal) = land.set_up(words) {
             let zero = Addr::new(0);
             return Opened {
                 land: new_land(zero, zero, Align::new(0)),
-                answer: 5,
+                answer: refusal.number(),
             };
-        };
+        }
         Opened { land, answer: 0 }
     }
 }

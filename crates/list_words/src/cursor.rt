@@ -21,13 +21,11 @@ impl Cursor {
     pub fn start(arena: Arena, head: Addr) -> Cursor
         ensures { result ≡ start_at arena head }
     {
-        let low = arena.base;
-        let bytes = Size::new(0);
         Cursor {
-            low,
+            low: arena.base,
             at: head,
             count: 0,
-            bytes,
+            bytes: Size::new(0),
         }
     }
 
@@ -36,14 +34,11 @@ impl Cursor {
         requires { Near self end.0 }
         ensures { result ≡ onward self end.0 next }
     {
-        let low = end.after();
-        let count = self.count + 1;
-        let bytes = self.bytes.plus(self.at.size_to(end));
         Cursor {
-            low,
+            low: end.after(),
             at: next,
-            count,
-            bytes,
+            count: self.count + 1,
+            bytes: self.bytes.plus(self.at.size_to(end)),
         }
     }
 

@@ -61,12 +61,10 @@ impl Spot {
     pub fn behind(last: Range) -> Spot
         ensures { result ≡ spot last none_range (addr 0) }
     {
-        let here = Range::none();
-        let next = Addr::new(0);
         Spot {
             prev: last,
-            here,
-            next,
+            here: Range::none(),
+            next: Addr::new(0),
         }
     }
 

@@ -2,6 +2,7 @@
 use Prim.Native.Nat.{ℕ}
 use mathlib.Core.List.{List}
 use mathlib.Core.Path.{◌≡◌}
+use Rattle.std.specs.Prelude.{Ok}
 use Rattle.model.specs.Flushing.{Flushes}
 use Rattle.list_words.specs.Laying.{lay}
 use Rattle.list_words.proofs.Laid.{lay-laid}
@@ -12,7 +13,6 @@ use Rattle.block_land.specs.Layout as block
 use Rattle.block_land.proofs.LayoutLaws as block-laws
 use Rattle.block_land.proofs.Sound as block-sound
 use Rattle.flush.specs.Flush.{check_of}
-use Rattle.flush.specs.declared.FlushCheck.{FlushCheck}
 use Rattle.flush.proofs.FlushKeeps as keeps
 use Rattle.pair.specs.inner.Inserts.{flush_of, flushed_counts, flushed_nodes, closed_by}
 use Rattle.pair.specs.declared.Pair.{Pair}
@@ -31,7 +31,7 @@ module _ (p : Pair) (ws vs : List ℕ) where
     pub in_block : block-laws.Reads flushed_pair.block (flushed_nodes p ws vs) (flush_of p ws vs).into
     pub same-words : lay (list.base p.list) (flush_of p ws vs).left ws ≡ ws
 
-  pub after : check_of p.list ws p.block vs ≡ FlushCheck.Good → After
+  pub after : check_of p.list ws p.block vs ≡ Ok tt → After
   after g =
       let c = keeps.checked p.list ws p.block vs g in
       record {

@@ -3,11 +3,12 @@ use Prim.Native.Nat.{ℕ, ◌≤◌, ◌<◌}
 use mathlib.Core.Bool.{true, false}
 use mathlib.Core.List.{List}
 use mathlib.Core.Path.{◌≡◌, refl, ap, ◌∙◌}
+use Rattle.std.specs.Prelude.{Result, Ok}
 use Rattle.units.specs.Rules.{good_align, range_check}
 use Rattle.units.specs.declared.Range as units
 use Rattle.units.specs.declared.aims.Aim.{Aim}
 use Rattle.units.specs.declared.rules.Arena as units-arena
-use Rattle.units.specs.declared.rules.RangeCheck.{RangeCheck}
+use Rattle.units.specs.declared.rules.RangeError.{RangeError}
 use Rattle.model.specs.Calls.{good_range_in, range_number_in}
 use Rattle.model.proofs.Checks.{range-bad, range-good}
 use Rattle.model.proofs.Requests.{range-refused}
@@ -36,19 +37,19 @@ module _ (p : Pair) (ws vs : List ℕ) {aim : Aim} (y : units.Range) (s : Spot) 
       pub asked-positive : 0 < a'.align.0
       asked-positive = block-requests.looked-positive p.block vs aim e (block-looked p ws vs aim s e k) a' (ea' ∙ ea)
 
-      module _ (r : RangeCheck) (er : r ≡ range_check a'.base.0 a'.limit.0 a'.align.0 y.base.0 y.limit.0) where
+      module _ (r : Result (Unit {0}) RangeError) (er : r ≡ range_check a'.base.0 a'.limit.0 a'.align.0 y.base.0 y.limit.0) where
         -- of any call that answers 4 where the rule is broken
         pub asked-4 : {R : Type 0} (g : PairDone → R) (c : PairCall) (d : PairDone) → d ≡ called c p ws vs →
             (good_range_in (block.arena_of p.block vs) y.base.0 y.limit.0 ≡ false → pair_step (block.arena_of p.block vs) c (both (list.walk_of p.list ws).met (block.table_of p.block vs))
             ≡ keep (range_number_in (block.arena_of p.block vs) y.base.0 y.limit.0) (both (list.walk_of p.list ws).met (block.table_of p.block vs))) →
-            (r ≡ RangeCheck.Good → ⊥) → (w : R) → w ≡ g (refusal p ws vs 4) → Hands g d w ws vs
+            (r ≡ Ok tt → ⊥) → (w : R) → w ≡ g (refusal p ws vs 4) → Hands g d w ws vs
         asked-4 g c d ed f t =
             let bad = range-bad (block.arena_of p.block vs) a' (ea' ∙ ea) y r er t in
             let four = range-refused (block.arena_of p.block vs) y.base.0 y.limit.0 bad in
             refuse g p ws vs 4 d
             (ed ∙ refuses p ws vs aim s e k c 4 refl (f bad ∙ ap (λ (n : ℕ). keep n (both (list.walk_of p.list ws).met (block.table_of p.block vs))) four))
 
-        pub asked-good : r ≡ RangeCheck.Good → Ranged p ws vs aim y s e
+        pub asked-good : r ≡ Ok tt → Ranged p ws vs aim y s e
         asked-good f = record { checked = k; good = range-good (block.arena_of p.block vs) a' (ea' ∙ ea) y r er f }
 
   -- A REQUEST THAT KEEPS IT

@@ -5,12 +5,16 @@ use mathlib.Core.List.{List}
 use mathlib.Core.Path.{◌≡◌, refl, sym, ap, ◌∙◌}
 use lib.Dec.{eqb}
 use borrow.Author.Tests.{not-true, not-false}
+use Rattle.std.specs.Prelude.{Result, Ok, Err}
+use Rattle.units.specs.declared.refusals.Refusal.{Refusal}
+use Rattle.units.specs.Rules.{refusal_number}
 use Rattle.units.specs.declared.aims.Aim.{Aim}
 use Rattle.units.proofs.Tests.{by, and_left, and_right}
 use Rattle.model.specs.Calls.{refused, accepted}
 use Rattle.model.specs.Layouts.{Reading, fault, holding}
 use Rattle.model.specs.Marks.{Range}
-use Rattle.model.proofs.lands.Looking.{said, said-5, said-6, said-0}
+use Rattle.model.specs.inner.Looks.{look_of}
+use Rattle.model.proofs.lands.Looking.{look-ok, look-err}
 use Rattle.model.proofs.Outcomes.{fault-number}
 use Rattle.list_words.specs.Laying.{lay}
 use Rattle.list_words.specs.inner.Surveys.{kept_of}
@@ -26,13 +30,11 @@ use Rattle.block_land.specs.inner.Parts as block-parts
 use Rattle.block_land.proofs.Land as block_land
 use Rattle.flush.specs.Flush.{same_arena}
 use Rattle.flush.specs.Flush as flush-check
-use Rattle.flush.specs.declared.FlushCheck.{FlushCheck}
 use Rattle.pair_model.specs.Pairs.{both, PairCall, Sets, keep, pair_step}
 use Rattle.pair_model.specs.PairLayouts.{meet, pair_read}
 use Rattle.pair.specs.Calls.{lands, PairDone, called, set_up, sound}
 use Rattle.pair.specs.inner.Parts.{aim_in, check_of, check_number, Checked}
 use Rattle.pair.specs.declared.Pair.{Pair}
-use Rattle.pair.specs.declared.PairCheck.{PairCheck}
 use Rattle.pair.proofs.Checking.{list_up, block_up, flush-good}
 
 module _ (p : Pair) (ws vs : List ℕ) where
@@ -124,28 +126,25 @@ module _ {R : Type 0} (f : PairDone → R) (p : Pair) (ws vs : List ℕ) (c : Pa
   damaged-is-6 g t = refuse f p ws vs 6 d (ed ∙ rw (reads-6 p ws vs g t))
 
 -- WHAT A CHECK SAYS
-module _ (p : Pair) (ws vs : List ℕ) (aim : Aim) (v : PairCheck) (ev : v ≡ check_of p ws vs aim) where
-  told : check_number v ≡ said (set_up p ws vs) (sound p ws vs)
-  unfolding check_of
-  told =
-      ap check_number ev
-      ∙ by (set_up p ws vs) (λ g. by (sound p ws vs) (λ t. rw (g, t)) (λ t. rw (g, t))) (λ g. rw g)
+module _ (p : Pair) (ws vs : List ℕ) (aim : Aim) (v : Result (Spot × Entry) Refusal) (ev : v ≡ check_of p ws vs aim) where
+  abbrev kept : Spot × Entry
+  kept = (kept_of (aim_in p aim) (list.walk_of p.list ws).met, entry_of (aim_in p aim) (block.table_of p.block vs))
 
-  pub saw-checked : (s : Spot) (e : Entry) → v ≡ PairCheck.Good s e → Checked p ws vs (aim_in p aim) s e
+  told : v ≡ look_of (set_up p ws vs) (sound p ws vs) kept
   unfolding check_of
+  told = ev
+
+  pub saw-checked : (s : Spot) (e : Entry) → v ≡ Ok (s, e) → Checked p ws vs (aim_in p aim) s e
   saw-checked s e f =
-      let t = said-0 (set_up p ws vs) (sound p ws vs) (sym told ∙ ap check_number f) in
-      let q : v ≡ PairCheck.Good (kept_of (aim_in p aim) (list.walk_of p.list ws).met) (entry_of (aim_in p aim) (block.table_of p.block vs)) = rw (t.0, t.1) at ev in
-      record { good = t.0; whole = t.1; spot = cc; entry = cc }
+      let t = look-ok (set_up p ws vs) (sound p ws vs) kept (s, e) (sym f ∙ told) in
+      record { good = t.0; whole = t.1; spot = ap (λ (k : Spot × Entry). k.0) t.2; entry = ap (λ (k : Spot × Entry). k.1) t.2 }
 
-  module _ {R : Type 0} (g : PairDone → R) (c : PairCall) (d : PairDone) (ed : d ≡ called c p ws vs) where
-    pub answers-5 : v ≡ PairCheck.BadSetUp → (w : R) → w ≡ g (refusal p ws vs 5) → Hands g d w ws vs
-    answers-5 f = bad-is-5 g p ws vs c d ed (said-5 (set_up p ws vs) (sound p ws vs) (sym told ∙ ap check_number f))
-
-    pub answers-6 : v ≡ PairCheck.Damaged → (w : R) → w ≡ g (refusal p ws vs 6) → Hands g d w ws vs
-    answers-6 f =
-        let t = said-6 (set_up p ws vs) (sound p ws vs) (sym told ∙ ap check_number f) in
-        damaged-is-6 g p ws vs c d ed t.0 t.1
+  pub answers-err : {R : Type 0} (g : PairDone → R) (c : PairCall) (d : PairDone) → d ≡ called c p ws vs →
+      (x : Refusal) → v ≡ Err x → (w : R) → w ≡ g (refusal p ws vs (refusal_number x)) → Hands g d w ws vs
+  answers-err g c d ed x f =
+      look-err (set_up p ws vs) (sound p ws vs) kept x (sym f ∙ told)
+      (λ k q. rw q (bad-is-5 g p ws vs c d ed k))
+      (λ k t q. rw q (damaged-is-6 g p ws vs c d ed k t))
 
 -- A PAIR THAT WAS CHECKED
 module _ (p : Pair) (ws vs : List ℕ) (aim : Aim) (s : Spot) (e : Entry) (k : Checked p ws vs aim s e) where
@@ -167,7 +166,7 @@ module _ (p : Pair) (ws vs : List ℕ) (aim : Aim) (s : Spot) (e : Entry) (k : C
   pub block-looked : block-parts.Looked p.block vs aim e
   block-looked = record { good = block_up p ws vs k.good; whole = block-sound; kept = k.entry }
 
-  pub flush-checked : flush-check.check_of p.list ws p.block vs ≡ FlushCheck.Good
+  pub flush-checked : flush-check.check_of p.list ws p.block vs ≡ Ok tt
   flush-checked = flush-good p ws vs k.good list-sound block-sound
 
   -- a refused step, and an accepted one

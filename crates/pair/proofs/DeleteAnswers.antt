@@ -2,9 +2,12 @@
 use Prim.Native.Nat.{ℕ, ◌-◌, ◌≤◌}
 use mathlib.Core.Bool.{Bool, true, false}
 use mathlib.Core.List.{List}
-use mathlib.Core.Path.{◌≡◌, refl, sym, subst, ◌∙◌}
+use mathlib.Core.Logic.{◌⊎◌, inl, inr}
+use mathlib.Core.Path.{◌≡◌, refl, sym, ap, subst, ◌∙◌}
 use native.Mathlib.Omega.{arith}
 use borrow.Author.Tests.{not-false}
+use Rattle.std.specs.Prelude.{Result, Ok, Err}
+use Rattle.units.specs.declared.refusals.Refusal.{Refusal}
 use Rattle.units.specs.declared.Range as units
 use Rattle.units.specs.declared.Size.{Size}
 use Rattle.model.specs.Calls.{good_range_in, accepted}
@@ -24,7 +27,7 @@ use Rattle.block_words.specs.inner.Surveys as places
 use Rattle.block_words.specs.declared.Entry.{Entry}
 use Rattle.block_edits.specs.inner.Edits.{Sorted, cut_of, cut_words}
 use Rattle.block_edits.specs.declared.TableEdited.{TableEdited}
-use Rattle.block_edits.proofs.Answered.{cut-refused, cut-full, cut-done, cut-words}
+use Rattle.block_edits.proofs.Answered.{cut-refusal, cut-refused, cut-full, cut-done, cut-words}
 use Rattle.block_land.specs.Layout as block
 use Rattle.block_land.specs.declared.BlockLand.{BlockLand}
 use Rattle.block_land.proofs.EditAnswers as block-edits
@@ -108,37 +111,47 @@ module _ (p : Pair) (ws vs : List ℕ) (y : units.Range) (s : Spot) (e : Entry) 
     pub cut-spot : places.FirstReach vs p.block.ranges y.limit.0 e.number
     cut-spot = block-requests.looked-spot p.block vs y.limit e (block-looked p ws vs (reach_limit y) s e u.asked.checked)
 
-    module _ (v : TableEdited) (vs' : List ℕ) (d : (v ≡ cut_of vs p.block.ranges y) × (vs' ≡ cut_words vs p.block.ranges y)) where
-      pub none-holds : v ≡ TableEdited.Refused → Nowhere p ws vs' y
-      none-holds f =
-          let q = sym d.0 ∙ f in
-          subst (λ (x : List ℕ). Nowhere p ws x y) (sym (d.1 ∙ cut-words vs p.block.ranges y TableEdited.Refused q))
+    module _ (v : Result TableEdited Refusal) (vs' : List ℕ) (d : (v ≡ cut_of vs p.block.ranges y) × (vs' ≡ cut_words vs p.block.ranges y)) where
+      overlap : (r : Refusal) → v ≡ Err r → (r ≡ Refusal.Full → ⊥) → cut_of vs p.block.ranges y ≡ Err Refusal.Overlap
+      overlap r f n = go (cut-refusal vs p.block.ranges y r (sym d.0 ∙ f))
+        where
+          go : (r ≡ Refusal.Overlap) ⊎ (r ≡ Refusal.Full) → cut_of vs p.block.ranges y ≡ Err Refusal.Overlap
+          go (inl g) = sym d.0 ∙ f ∙ ap (λ (z : Refusal). Err z) g
+          go (inr g) = absurd (n g)
+
+      filled : (r : Refusal) → v ≡ Err r → r ≡ Refusal.Full → cut_of vs p.block.ranges y ≡ Err Refusal.Full
+      filled r f n = sym d.0 ∙ f ∙ ap (λ (z : Refusal). Err z) n
+
+      pub none-holds : (r : Refusal) → v ≡ Err r → (r ≡ Refusal.Full → ⊥) → Nowhere p ws vs' y
+      none-holds r f n =
+          let q = overlap r f n in
+          subst (λ (x : List ℕ). Nowhere p ws x y) (sym (d.1 ∙ cut-words vs p.block.ranges y (Err Refusal.Overlap) q))
           (record { spot = s; entry = e; asked = u; none = cut-refused vs p.block.ranges y q })
 
-      pub after_none : v ≡ TableEdited.Refused → (w : Changed) (ws₂ vs₂ : List ℕ) → Deletes p ws vs' y w ws₂ vs₂ → Deletes p ws vs y w ws₂ vs₂
-      after_none f w ws₂ vs₂ g =
-          subst (λ (x : List ℕ). Deletes p ws x y w ws₂ vs₂) (d.1 ∙ cut-words vs p.block.ranges y TableEdited.Refused (sym d.0 ∙ f)) g
+      pub after_none : (r : Refusal) → v ≡ Err r → (r ≡ Refusal.Full → ⊥) → (w : Changed) (ws₂ vs₂ : List ℕ) → Deletes p ws vs' y w ws₂ vs₂ → Deletes p ws vs y w ws₂ vs₂
+      after_none r f n w ws₂ vs₂ g =
+          subst (λ (x : List ℕ). Deletes p ws x y w ws₂ vs₂) (d.1 ∙ cut-words vs p.block.ranges y (Err Refusal.Overlap) (overlap r f n)) g
 
-      pub spills : v ≡ TableEdited.Full → Spilling p ws vs' y s e
-      spills f =
-          let q = sym d.0 ∙ f in
+      pub spills : (r : Refusal) → v ≡ Err r → r ≡ Refusal.Full → Spilling p ws vs' y s e
+      spills r f n =
+          let q = filled r f n in
           let o = cut-full vs p.block.ranges y q in
-          subst (λ (x : List ℕ). Spilling p ws x y s e) (sym (d.1 ∙ cut-words vs p.block.ranges y TableEdited.Full q))
+          subst (λ (x : List ℕ). Spilling p ws x y s e) (sym (d.1 ∙ cut-words vs p.block.ranges y (Err Refusal.Full) q))
           (record { asked = u; held = not-false (holds b l qs) o.0; full = o.1 })
 
-      pub after-spill : v ≡ TableEdited.Full → (w : Changed) (ws₂ vs₂ : List ℕ) → Deletes p ws vs' y w ws₂ vs₂ → Deletes p ws vs y w ws₂ vs₂
-      after-spill f w ws₂ vs₂ g =
-          subst (λ (x : List ℕ). Deletes p ws x y w ws₂ vs₂) (d.1 ∙ cut-words vs p.block.ranges y TableEdited.Full (sym d.0 ∙ f)) g
+      pub after-spill : (r : Refusal) → v ≡ Err r → r ≡ Refusal.Full → (w : Changed) (ws₂ vs₂ : List ℕ) → Deletes p ws vs' y w ws₂ vs₂ → Deletes p ws vs y w ws₂ vs₂
+      after-spill r f n w ws₂ vs₂ g =
+          subst (λ (x : List ℕ). Deletes p ws x y w ws₂ vs₂) (d.1 ∙ cut-words vs p.block.ranges y (Err Refusal.Full) (filled r f n)) g
 
-      module _ (x : units.Range) (m : ℕ) (f : v ≡ TableEdited.Done x m) (z : Size) (ez : z.0 ≡ y.limit.0 - y.base.0) where
+      module _ (x : TableEdited) (f : v ≡ Ok x) (z : Size) (ez : z.0 ≡ y.limit.0 - y.base.0) where
         pub cut-room : z.0 ≤ p.block.bytes.0
-        cut-room = block-edits.delete-room p.block vs y e (block-looked p ws vs (reach_limit y) s e u.asked.checked) u.asked.good v vs' d x m f z ez
+        cut-room = block-edits.delete-room p.block vs y e (block-looked p ws vs (reach_limit y) s e u.asked.checked) u.asked.good v vs' d x f z ez
 
-        pub cut-0 : (t : Size) → t.0 ≡ p.block.bytes.0 - z.0 → (h : BlockLand) → h ≡ block.closed_with p.block m t →
-            Deletes p ws vs y (record { pair = record { list = p.list; block = h }; answer = 0; range = x }) ws vs'
+        pub cut-0 : (t : Size) → t.0 ≡ p.block.bytes.0 - z.0 → (h : BlockLand) → h ≡ block.closed_with p.block x.count t →
+            Deletes p ws vs y (record { pair = record { list = p.list; block = h }; answer = 0; range = x.range }) ws vs'
         cut-0 t et h eh =
             let q = sym d.0 ∙ f in
-            let o = cut-done vs p.block.ranges y x m q in
+            let o = cut-done vs p.block.ranges y x q in
             let lf = list_fine p ws vs y s e u.asked in
             let seen = list-looked p ws vs (reach_limit y) s e u.asked.checked in
             let c = not-false (holds b l qs) o.good in
@@ -146,6 +159,6 @@ module _ (p : Pair) (ws vs : List ℕ) (y : units.Range) (s : Spot) (e : Entry) 
             let left = total-delete b l (block.base p.block) (block.limit p.block) qs (order p ws vs y s e u.asked) bf.apart c in
             let bytes = bf.bytes in
             does u.asked (holder b l qs) rs (table_less p.block vs y) (rw (u.asked.good, u.unlisted, c, o.fits))
-            x o.range p.list (sym (handle-back list_land p.list ws seen.good seen.whole))
-            h (eh ∙ block-laws.closed-as p.block (table_less p.block vs y) m t o.count (omega arith))
-            ws vs' (sym (lay-laid (list.base p.list) rs ws lf.laid)) (d.1 ∙ cut-words vs p.block.ranges y (TableEdited.Done x m) q)
+            x.range o.range p.list (sym (handle-back list_land p.list ws seen.good seen.whole))
+            h (eh ∙ block-laws.closed-as p.block (table_less p.block vs y) x.count t o.count (omega arith))
+            ws vs' (sym (lay-laid (list.base p.list) rs ws lf.laid)) (d.1 ∙ cut-words vs p.block.ranges y (Ok x) q)

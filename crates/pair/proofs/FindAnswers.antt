@@ -3,15 +3,18 @@ use Prim.Native.Nat.{ℕ, ◌<◌}
 use mathlib.Core.Bool.{Bool, true, cond}
 use mathlib.Core.List.{List}
 use mathlib.Core.Path.{◌≡◌, refl, sym, ap, ap₂, subst, ◌∙◌}
+use Rattle.std.specs.Prelude.{Result, Ok, Err}
+use Rattle.std.specs.Prelude.{Option as Maybe, Some, None}
+use Rattle.units.specs.declared.refusals.Refusal.{Refusal}
 use Rattle.units.specs.inner.Aims as units-aims
-use Rattle.units.specs.Rules.{good_align, find_check, find_size}
+use Rattle.units.specs.Rules.{good_align, find_check, find_size, refusal_number}
 use Rattle.units.specs.declared.Mode.{Mode}
 use Rattle.units.specs.declared.Range as units
 use Rattle.units.specs.declared.Size.{Size}
 use Rattle.units.specs.declared.Which.{Which}
 use Rattle.units.specs.declared.aims.Aim.{Aim}
 use Rattle.units.specs.declared.rules.Arena as units-arena
-use Rattle.units.specs.declared.rules.SizeCheck.{SizeCheck}
+use Rattle.units.specs.declared.rules.SizeError.{SizeError}
 use Rattle.units.proofs.Alignments.{align-positive}
 use Rattle.model.specs.Calls as land
 use Rattle.model.specs.Calls.{Arena, Step, good_size_in, size_number_in, find_size_in, unbounded}
@@ -35,14 +38,13 @@ use Rattle.block_land.proofs.Sound as block-sound
 use Rattle.flush.proofs.FlushKeeps.{OneArena}
 use Rattle.pair_model.specs.Pairs.{both, Sets, find, keep, in_list, in_block, find_in, pair_step}
 use Rattle.pair.specs.Calls.{called, found, found_of}
-use Rattle.pair.specs.inner.Finding.{find_aim, Ordered, side_of, ListChosen, BlockChosen, list_found, block_found}
+use Rattle.pair.specs.inner.Finding.{Sought, find_aim, Ordered, side_of, ListChosen, BlockChosen, list_found, block_found}
 use Rattle.pair.specs.inner.Parts.{aim_in, check_of, Checked, found_none}
 use Rattle.pair.specs.declared.Found.{Found}
 use Rattle.pair.specs.declared.Pair.{Pair}
-use Rattle.pair.specs.declared.PairCheck.{PairCheck}
 use Rattle.pair.specs.declared.find.Side.{Side}
 use Rattle.pair.proofs.Checking.{block_up, same_up}
-use Rattle.pair.proofs.Calling.{Hands, answers-5, answers-6, list-looked, block-looked, refuses, accepts, refuse}
+use Rattle.pair.proofs.Calling.{Hands, answers-err, list-looked, block-looked, refuses, accepts, refuse}
 use Rattle.pair.proofs.FindLands.{find-accepts, find-done}
 use Rattle.pair.proofs.Sides.{list-there, block-there, by_side, side-step}
 
@@ -83,7 +85,7 @@ module _ (p : Pair) (ws vs : List ℕ) (w : Which) (n : Size) (mode : Mode) (s :
   pub find-ordered : Ordered s.here e.here
   find-ordered = record { list = chosen-order list_land p.list ws w n s in-list-kept; block = chosen-order block_land p.block vs w n e in-block-kept }
 
-  module _ (g : good_size_in (block.arena_of p.block vs) w n.0 ≡ true) (t : Side) (et : t ≡ side_of w s.here e.here) where
+  module _ (g : good_size_in (block.arena_of p.block vs) w n.0 ≡ true) (t : Maybe Side) (et : t ≡ side_of w s.here e.here) where
     -- the step is the one of the side that the code takes
     stepped : pair_step (block.arena_of p.block vs) (find w n.0 mode) (both (list.walk_of p.list ws).met (block.table_of p.block vs))
         ≡ by_side (block.arena_of p.block vs) (land.find w n.0 mode) w (both (list.walk_of p.list ws).met (block.table_of p.block vs)) t
@@ -94,13 +96,13 @@ module _ (p : Pair) (ws vs : List ℕ) (w : Which) (n : Size) (mode : Mode) (s :
         ∙ ap₂ (λ (x y : units.Range). by_side a c w sets (side_of w x y)) (sym (chosen list_land p.list ws w n s in-list-kept)) (sym (chosen block_land p.block vs w n e in-block-kept))
         ∙ ap (by_side a c w sets) (sym et)
 
-    pub find-2 : t ≡ Side.Neither → (v : Found) → v ≡ found_none p 2 → Gives v ws vs
+    pub find-2 : t ≡ None → (v : Found) → v ≡ found_none p 2 → Gives v ws vs
     find-2 h v ev =
         refuse found_of p ws vs 2 (found p ws vs w n.0 mode)
         (is_found p ws vs w n.0 mode
         ∙ refuses p ws vs (find_aim p w n) s e k (find w n.0 mode) 2 refl (stepped ∙ ap (by_side a c w sets) h)) v ev
 
-    module _ (h : t ≡ Side.List) where
+    module _ (h : t ≡ Some Side.List) where
       pub list-chosen : ListChosen p.list ws w n s
       list-chosen = record {
         looked = in-list-kept;
@@ -130,7 +132,7 @@ module _ (p : Pair) (ws vs : List ℕ) (w : Which) (n : Size) (mode : Mode) (s :
           (v ≡ list_found p (list-calls.found p.list ws w n.0 mode)) × (ws' ≡ (list-calls.found p.list ws w n.0 mode).words) → Gives v ws' vs
       find-list v ws' u = (rw list-is u.0, rw list-is u.1, rw list-is)
 
-    module _ (h : t ≡ Side.Block) where
+    module _ (h : t ≡ Some Side.Block) where
       pub block-chosen : BlockChosen p.block vs w n e
       block-chosen = record { looked = in-block-kept; good = g; there = block-there w s.here e.here (sym et ∙ h) }
 
@@ -154,18 +156,11 @@ module _ (p : Pair) (ws vs : List ℕ) (w : Which) (n : Size) (mode : Mode) (s :
       find-block v vs' u = (rw block-is u.0, rw block-is, rw block-is u.1)
 
 -- WHAT A CHECK FOR A FIND SAYS
-module _ (p : Pair) (ws vs : List ℕ) (w : Which) (n : Size) (mode : Mode) (v : PairCheck) (ev : v ≡ check_of p ws vs (Aim.Find w n)) where
-  pub find-5 : v ≡ PairCheck.BadSetUp → (r : Found) → r ≡ found_none p 5 → Hands found_of (found p ws vs w n.0 mode) r ws vs
-  find-5 = answers-5 p ws vs (Aim.Find w n) v ev found_of (find w n.0 mode) (found p ws vs w n.0 mode) (is_found p ws vs w n.0 mode)
-
-  pub find-6 : v ≡ PairCheck.Damaged → (r : Found) → r ≡ found_none p 6 → Hands found_of (found p ws vs w n.0 mode) r ws vs
-  find-6 = answers-6 p ws vs (Aim.Find w n) v ev found_of (find w n.0 mode) (found p ws vs w n.0 mode) (is_found p ws vs w n.0 mode)
+module _ (p : Pair) (ws vs : List ℕ) (w : Which) (n : Size) (mode : Mode) (v : Result (Spot × Entry) Refusal) (ev : v ≡ check_of p ws vs (Aim.Find w n)) where
+  pub find-err : (x : Refusal) → v ≡ Err x → (r : Found) → r ≡ found_none p (refusal_number x) → Hands found_of (found p ws vs w n.0 mode) r ws vs
+  find-err = answers-err p ws vs (Aim.Find w n) v ev found_of (find w n.0 mode) (found p ws vs w n.0 mode) (is_found p ws vs w n.0 mode)
 
 -- THE SIZE
--- a pair that was checked, and what a find of a good size keeps of it
-abbrev pub Asked : Pair → List ℕ → List ℕ → Which → Size → Spot → Entry → Type 0
-Asked p ws vs w n s e = Checked p ws vs (find_aim p w n) s e × (good_size_in (block.arena_of p.block vs) w n.0 ≡ true)
-
 module _ (p : Pair) (ws vs : List ℕ) (w : Which) (n : Size) (s : Spot) (e : Entry) (k : Checked p ws vs (aim_in p (Aim.Find w n)) s e)
     (x : units-arena.Arena) (ex : x ≡ block-parts.arena_in p.block) where
   pub find-align : good_align x.align.0 ≡ true
@@ -180,19 +175,19 @@ module _ (p : Pair) (ws vs : List ℕ) (w : Which) (n : Size) (s : Spot) (e : En
       let o = same_up p ws vs k.good in
       λ i. record { base = record { 0 = o.base i }; limit = record { 0 = o.limit i }; align = record { 0 = o.align i } }
 
-  module _ (c : SizeCheck) (ec : c ≡ find_check w x.base.0 x.limit.0 x.align.0 n.0) where
-    pub find-4 : (c ≡ SizeCheck.Good → ⊥) → (mode : Mode) (r : Found) → r ≡ found_none p 4 → Hands found_of (found p ws vs w n.0 mode) r ws vs
+  module _ (c : Result (Unit {0}) SizeError) (ec : c ≡ find_check w x.base.0 x.limit.0 x.align.0 n.0) where
+    pub find-4 : (c ≡ Ok tt → ⊥) → (mode : Mode) (r : Found) → r ≡ found_none p 4 → Hands found_of (found p ws vs w n.0 mode) r ws vs
     find-4 o mode =
         let z = size-refused (block.arena_of p.block vs) w n.0 (size-bad (block.arena_of p.block vs) x ex w n.0 c ec o) in
         refuse found_of p ws vs 4 (found p ws vs w n.0 mode)
         (is_found p ws vs w n.0 mode ∙ refuses p ws vs (aim_in p (Aim.Find w n)) s e k (find w n.0 mode) 4 refl (rw z))
 
-    pub find-ready : c ≡ SizeCheck.Good → Asked p ws vs w n s e
+    pub find-ready : c ≡ Ok tt → Sought p ws vs w n s e
     find-ready g =
         let a = block-parts.arena_in p.block in
-        let f : find_check w a.base.0 a.limit.0 a.align.0 n.0 ≡ SizeCheck.Good =
+        let f : find_check w a.base.0 a.limit.0 a.align.0 n.0 ≡ Ok tt =
         ap (λ (y : units-arena.Arena). find_check w y.base.0 y.limit.0 y.align.0 n.0) (sym ex) ∙ sym ec ∙ g in
         let q : aim_in p (Aim.Find w n) ≡ find_aim p w n =
         ap (λ (y : units-arena.Arena). units-aims.aim_of y (Aim.Find w n)) one-arena
-        ∙ ap (λ (y : SizeCheck). units-aims.find_aim y w (record { 0 = find_size a.align.0 n.0 })) f in
+        ∙ ap (λ (y : Result (Unit {0}) SizeError). units-aims.find_aim y w (record { 0 = find_size a.align.0 n.0 })) f in
         (rw q at k, size-good (block.arena_of p.block vs) x ex w n.0 c ec g)

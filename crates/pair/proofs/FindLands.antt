@@ -23,7 +23,7 @@ pub record Accepts (a : Arena) (c : Call) (rs : List Range) : Type 0 where
   pub next : List Range
   pub step : step list_ops a c rs ≡ record { out = accepted part old; next = next }
 
-module _ {H L S C F : Type 0} (I : Land H L S C F) (h : H) (ws : List ℕ) (w : Which) (n : Size) (mode : Mode) (s : S)
+module _ {H S C F : Type 0} (I : Land H S C F) (h : H) (ws : List ℕ) (w : Which) (n : Size) (mode : Mode) (s : S)
     (k : Chose (I.set-up h ws) (I.sound h ws) (good_size_in (I.layout.arena h ws) w n.0) (I.keep (find-aim I h ws w n) (I.ranges h ws)) s (I.here s)) where
   abbrev want : ℕ
   want = find_size_in (I.layout.arena h ws) n.0

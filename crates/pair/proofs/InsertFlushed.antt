@@ -6,6 +6,7 @@ use mathlib.Core.Path.{◌≡◌, sym, ap, ap₂, subst, ◌∙◌}
 use native.Mathlib.Omega.{arith}
 use lib.Dec.{leb}
 use lib.ListN.{length}
+use Rattle.std.specs.Prelude.{Ok}
 use Rattle.units.specs.declared.Range as units
 use Rattle.units.proofs.Tests.{by, or_left, or_right, and_left}
 use Rattle.model.specs.Marks.{Range, rng, struct, marks_of}
@@ -26,7 +27,6 @@ use Rattle.block_words.specs.Words.{capacity, fill}
 use Rattle.block_words.proofs.Filling.{length-fill, fill-fill}
 use Rattle.block_land.specs.Layout as block
 use Rattle.flush.specs.Flush.{check_of}
-use Rattle.flush.specs.declared.FlushCheck.{FlushCheck}
 use Rattle.pair_model.specs.Pairs.{insert}
 use Rattle.pair_model.proofs.InsertTurns.{no-overlap}
 use Rattle.pair.specs.inner.Inserts.{counts_of, flush_of, flushed_counts, flushed_nodes, closed_by, entered, entered_words, entered_nodes, Open, Bare, Preparable}
@@ -54,7 +54,7 @@ module _ (p : Pair) (ws vs : List ℕ) (y : units.Range) (s : Spot) (e : Entry) 
   abbrev fl : Flush
   fl = flush_of p ws vs
 
-  good : check_of p.list ws p.block vs ≡ FlushCheck.Good
+  good : check_of p.list ws p.block vs ≡ Ok tt
   good = flush-checked p ws vs (reach_base y) s e k.wanted.checked
 
   known : After p ws vs

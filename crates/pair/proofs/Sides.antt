@@ -6,6 +6,7 @@ use mathlib.Core.Path.{◌≡◌, refl, sym, ◌∙◌}
 use native.Mathlib.Omega.{arith}
 use lib.Dec.{ltb, eqb}
 use borrow.Author.Tests.{ne_eqb, not-true, not-false}
+use Rattle.std.specs.Prelude.{Option as Maybe, Some, None}
 use Rattle.units.specs.declared.Range as units
 use Rattle.units.specs.declared.Size.{Size}
 use Rattle.units.specs.declared.Which.{Which}
@@ -49,24 +50,24 @@ pub ruleset firsts = (first-lower, first-higher, first-longer, first-shorter, fi
 
 -- the side, of ranges that may be none
 module _ (w : Which) (r q : units.Range) (t : Bool) (et : t ≡ eqb r.base.0 0) (u : Bool) (eu : u ≡ eqb q.base.0 0) where
-  pub side-neither : t ≡ true → u ≡ true → Side.Neither ≡ side_of w r q
+  pub side-neither : t ≡ true → u ≡ true → None ≡ side_of w r q
   unfolding side_of
   side-neither f g = rw (sym et ∙ f, sym eu ∙ g)
 
-  pub side-only-block : t ≡ true → u ≡ false → Side.Block ≡ side_of w r q
+  pub side-only-block : t ≡ true → u ≡ false → Some Side.Block ≡ side_of w r q
   unfolding side_of
   side-only-block f g = rw (sym et ∙ f, sym eu ∙ g)
 
-  pub side-only-list : t ≡ false → u ≡ true → Side.List ≡ side_of w r q
+  pub side-only-list : t ≡ false → u ≡ true → Some Side.List ≡ side_of w r q
   unfolding side_of
   side-only-list f g = rw (sym et ∙ f, sym eu ∙ g)
 
   module _ (f : t ≡ false) (g : u ≡ false) (v : Bool) (ev : v ≡ list_first w (plain r) (plain q)) where
-    pub side-list : v ≡ true → Side.List ≡ side_of w r q
+    pub side-list : v ≡ true → Some Side.List ≡ side_of w r q
     unfolding side_of
     side-list h = rw (sym et ∙ f, sym eu ∙ g, sym ev ∙ h)
 
-    pub side-block : v ≡ false → Side.Block ≡ side_of w r q
+    pub side-block : v ≡ false → Some Side.Block ≡ side_of w r q
     unfolding side_of
     side-block h = rw (sym et ∙ f, sym eu ∙ g, sym ev ∙ h)
 
@@ -74,30 +75,30 @@ pub ruleset sides = (side-neither, side-only-block, side-only-list, side-list, s
 
 -- the land whose range is taken has one
 module _ (w : Which) (r q : units.Range) where
-  pub list-there : side_of w r q ≡ Side.List → eqb r.base.0 0 ≡ false
+  pub list-there : side_of w r q ≡ Some Side.List → eqb r.base.0 0 ≡ false
   unfolding side_of
   list-there h =
       by (eqb r.base.0 0)
       (λ e. by (eqb q.base.0 0)
-      (λ f. let z : Side.Neither ≡ Side.List = rw (e, f) at h in let y : ◌≡◌ {A = ℕ} 0 1 = cc in absurd (omega arith))
-      (λ f. let z : Side.Block ≡ Side.List = rw (e, f) at h in let y : ◌≡◌ {A = ℕ} 0 1 = cc in absurd (omega arith)))
+      (λ f. let z : None ≡ Some Side.List = rw (e, f) at h in let y : ◌≡◌ {A = ℕ} 0 1 = cc in absurd (omega arith))
+      (λ f. let z : Some Side.Block ≡ Some Side.List = rw (e, f) at h in let y : ◌≡◌ {A = ℕ} 0 1 = cc in absurd (omega arith)))
       (λ e. e)
 
-  pub block-there : side_of w r q ≡ Side.Block → eqb q.base.0 0 ≡ false
+  pub block-there : side_of w r q ≡ Some Side.Block → eqb q.base.0 0 ≡ false
   unfolding side_of
   block-there h =
       by (eqb q.base.0 0)
       (λ f. by (eqb r.base.0 0)
-      (λ e. let z : Side.Neither ≡ Side.Block = rw (e, f) at h in let y : ◌≡◌ {A = ℕ} 0 1 = cc in absurd (omega arith))
-      (λ e. let z : Side.List ≡ Side.Block = rw (e, f) at h in let y : ◌≡◌ {A = ℕ} 0 1 = cc in absurd (omega arith)))
+      (λ e. let z : None ≡ Some Side.Block = rw (e, f) at h in let y : ◌≡◌ {A = ℕ} 0 1 = cc in absurd (omega arith))
+      (λ e. let z : Some Side.List ≡ Some Side.Block = rw (e, f) at h in let y : ◌≡◌ {A = ℕ} 0 1 = cc in absurd (omega arith)))
       (λ f. f)
 
 -- the step of each side
 module _ (a : Arena) (c : land.Call) (w : Which) (s : Sets) where
-  abbrev pub by_side : Side → Step Sets
-  by_side Side.Neither = keep 2 s
-  by_side Side.List = in_list (list_step a c s.list) s.block
-  by_side Side.Block = in_block s.list (block_step a c s.block)
+  abbrev pub by_side : Maybe Side → Step Sets
+  by_side None = keep 2 s
+  by_side (Some Side.List) = in_list (list_step a c s.list) s.block
+  by_side (Some Side.Block) = in_block s.list (block_step a c s.block)
 
   pub side-step : (o p : Option Range) → ((r : Range) → o ≡ some r → 0 < r.base) → ((q : Range) → p ≡ some q → 0 < q.base) →
       find_in a c w s o p ≡ by_side (side_of w (here_of o) (here_of p))

@@ -8,7 +8,6 @@ ghost use Rattle.pair.specs.inner.Deletes.{begins, Asked, Unlisted, Spilling, No
 
 use crate::edits::{take_listed, take_tabled};
 use crate::{Changed, Pair, refused};
-use block_edits::TableEdited;
 use block_words::Entry;
 use list_words::Spot;
 use units::{Aim, Range, Refusal};
@@ -80,18 +79,20 @@ impl Pair {
         ensures { (result ≡ changed (deleted self words.old nodes.old range)) × (words.new ≡ (deleted self words.old nodes.old range).words.list) × (nodes.new ≡ (deleted self words.old nodes.old range).words.block) }
     {
         match block_edits::cut_out(nodes, self.block.ranges, entry.number, range) {
-            TableEdited::Refused => self.refuse_delete(words, nodes, range),
-            TableEdited::Full => self.hand_over(words, nodes, range, spot, entry),
-            TableEdited::Done(old, count) => {
+            Err(refusal) => match refusal {
+                Refusal::Full => self.hand_over(words, nodes, range, spot, entry),
+                _ => self.refuse_delete(words, nodes, range),
+            },
+            Ok(edited) => {
                 let list = self.list;
                 let land = self.block;
                 let bytes = land.bytes.minus(range.size());
-                let block = land.close(count, bytes);
+                let block = land.close(edited.count, bytes);
                 let pair = Pair { list, block };
                 Changed {
                     pair,
                     answer: 0,
-                    range: old,
+                    range: edited.range,
                 }
             }
         }

@@ -7,7 +7,7 @@ ghost use Rattle.block_land.specs.Calls as block;
 ghost use Rattle.pair_model.specs.Pairs.{list_first};
 ghost use Rattle.pair.specs.Calls.{found, found_of};
 ghost use Rattle.pair.specs.inner.Parts.{aim_in, Checked};
-ghost use Rattle.pair.specs.inner.Finding.{Ordered, side_of, ListChosen, BlockChosen, list_found, block_found};
+ghost use Rattle.pair.specs.inner.Finding.{Ordered, Sought, side_of, ListChosen, BlockChosen, list_found, block_found};
 
 use crate::edits::{take_listed, take_tabled};
 use crate::{Found, Pair, none_found};
@@ -132,7 +132,28 @@ impl Pair {
         }
     }
 
-    // A find in a sound pair, at the ranges chosen in both lands: 4, 2, and the removal.
+    // A find of a good size in a sound pair, at the ranges chosen in both lands: 2, and the removal.
+    fn find_sized(
+        self,
+        words: &mut [u64],
+        nodes: &mut [u64],
+        which: Which,
+        size: Size,
+        mode: Mode,
+        spot: Spot,
+        entry: Entry,
+    ) -> Found
+        requires { Sought self words.old nodes.old which size spot entry }
+        ensures { (result ≡ found_of (found self words.old nodes.old which size.0 mode)) × (words.new ≡ (found self words.old nodes.old which size.0 mode).words.list) × (nodes.new ≡ (found self words.old nodes.old which size.0 mode).words.block) }
+    {
+        match choose_side(which, spot.here, entry.here) {
+            None => none_found(self, Refusal::NoneFound),
+            Some(Side::List) => self.find_in_list(words, which, size, mode, spot),
+            Some(Side::Block) => self.find_in_block(nodes, which, size, mode, entry),
+        }
+    }
+
+    // A find in a sound pair, at what its aim keeps of both lands: 4, and then the ranges chosen.
     fn find_at(
         self,
         words: &mut [u64],
@@ -146,19 +167,14 @@ impl Pair {
         requires { Checked self words.old nodes.old (aim_in self (Aim·.Find which size)) spot entry }
         ensures { (result ≡ found_of (found self words.old nodes.old which size.0 mode)) × (words.new ≡ (found self words.old nodes.old which size.0 mode).words.list) × (nodes.new ≡ (found self words.old nodes.old which size.0 mode).words.block) }
     {
-        let block = self.block;
-        let Ok(()) = block.arena().by_bit().check_find(which, size) else {
+        let Ok(()) = self.block.arena().by_bit().check_find(which, size) else {
             return none_found(self, Refusal::Request);
         };
-        match choose_side(which, spot.here, entry.here) {
-            None => none_found(self, Refusal::NoneFound),
-            Some(Side::List) => self.find_in_list(words, which, size, mode, spot),
-            Some(Side::Block) => self.find_in_block(nodes, which, size, mode, entry),
-        }
+        self.find_sized(words, nodes, which, size, mode, spot, entry)
     }
 
     // The find that `which` names: the set-up, the size, the one look at both lands, and then 6, 4, 2 and the removal.
-    fn find(
+    pub fn find(
         self,
         words: &mut [u64],
         nodes: &mut [u64],

@@ -102,19 +102,19 @@ impl Pair {
         ensures { (result ≡ entered (closed_by self rest) words.old nodes.old range) × (words.new ≡ entered_words (closed_by self rest) words.old nodes.old range) × (nodes.new ≡ entered_nodes (closed_by self rest) nodes.old range) }
     {
         match block_edits::join_at(nodes, rest.ranges, i, range) {
-            block_edits::TableJoined::Full => self.enter_list(rest, words, range, spot),
-            block_edits::TableJoined::Done(fresh, count) => {
+            Err(_) => self.enter_list(rest, words, range, spot),
+            Ok(edited) => {
                 let chain = rest.chain;
                 let held = rest.bytes;
                 let bytes = held.plus(range.size());
                 let counts = Counts {
                     chain,
-                    ranges: count,
+                    ranges: edited.count,
                     bytes,
                 };
                 Entered {
                     counts,
-                    range: fresh,
+                    range: edited.range,
                 }
             }
         }

@@ -1,17 +1,17 @@
 -- Where a range stands beside a table: the loop of `place_beside`, and what the place tells of overlaps. Assumes nothing.
 use Prim.Native.Nat.{ℕ, zero, suc, ◌+◌, ◌≤◌, ◌<◌}
-use mathlib.Core.Bool.{Bool, true, false, not}
+use mathlib.Core.Bool.{true, false, not}
 use mathlib.Core.List.{List, [], ◌∷◌}
 use mathlib.Core.Path.{◌≡◌, refl, sym, ap, subst, ◌∙◌}
 use native.Mathlib.Omega.{arith}
 use lib.Dec.{leb}
-use borrow.Author.Tests.{leb-true, leb-false}
-use Rattle.std.specs.Prelude.{Option, Some, None, Result, Ok, Err}
-use Rattle.units.specs.Rules.{sound_number}
-use Rattle.units.specs.inner.Parts.{Checked, soundness_of}
+use borrow.Author.Tests.{leb-true, leb-false, le-leb, lt-leb}
+use Rattle.std.specs.Prelude.{Option, Some, None}
+use Rattle.list_words.proofs.Surveying.{checked_number}
+use Rattle.units.specs.inner.Parts.{soundness_of}
 use Rattle.units.specs.declared.Range as units
+use Rattle.units.proofs.Orders.{orders}
 use Rattle.units.proofs.Tests.{by}
-use Rattle.units.proofs.Ways.{said-true, said-false}
 use Rattle.model.specs.Marks.{Range, struct}
 use Rattle.model.specs.inner.Lists.{Apart, plain}
 use Rattle.block_words.specs.Words.{capacity}
@@ -35,30 +35,32 @@ module _ (vs : List ℕ) (n : ℕ) (r : units.Range) (from : ℕ) where
     pub place_inside : i < n → i < capacity vs
     place_inside k = omega (arith, s.fits)
 
-    pub place_end : n ≤ i → Some i ≡ beside_of r from (behind vs n from)
-    place_end k = sym (ap (beside_of r i) (pairs_end vs n i k)) ∙ s.left
+    pub place_end : n ≤ i → Some n ≡ beside_of r from (behind vs n from)
+    place_end k =
+        let e : n ≡ i = omega (arith, s.upto) in
+        ap (λ (x : ℕ). Some x) e ∙ sym (ap (beside_of r i) (pairs_end vs n i k)) ∙ s.left
 
-    module _ (k : i < n) (q : units.Range) (eq : q ≡ pair_at vs i) (t : Bool) (et : t ≡ leb q.limit.0 r.base.0) where
+    module _ (k : i < n) (q : units.Range) (eq : q ≡ pair_at vs i) where
       here : beside_of r i (plain q ∷ behind vs n (i + 1)) ≡ beside_of r from (behind vs n from)
       here = ap (λ (x : units.Range). beside_of r i (plain x ∷ behind vs n (i + 1))) eq ∙ sym (ap (beside_of r i) (pairs-at vs n i k s.fits)) ∙ s.left
 
-      pub place-on : not t ≡ false → Placing vs n r from (i + 1)
+      pub place-on : q.limit.0 ≤ r.base.0 → Placing vs n r from (i + 1)
       place-on f =
-          let g = said-true t (leb q.limit.0 r.base.0) et f in
+          let g = le-leb q.limit.0 r.base.0 f in
           let w : beside_of r (i + 1) (behind vs n (i + 1)) ≡ beside_of r from (behind vs n from) = rw g at here in
           record { fits = s.fits; upto = omega arith; left = w }
 
-      module _ (f : not t ≡ true) (v : Bool) (ev : v ≡ leb r.limit.0 q.base.0) where
+      module _ (f : r.base.0 < q.limit.0) where
         above : leb q.limit.0 r.base.0 ≡ false
-        above = said-false t (leb q.limit.0 r.base.0) et f
+        above = lt-leb q.limit.0 r.base.0 f
 
-        pub place_here : v ≡ true → Some i ≡ beside_of r from (behind vs n from)
-        place_here g = let w = sym ev ∙ g in rw (above, w) at here
+        pub place_here : r.limit.0 ≤ q.base.0 → Some i ≡ beside_of r from (behind vs n from)
+        place_here g = let w = le-leb r.limit.0 q.base.0 g in rw (above, w) at here
 
-        pub place-overlaps : v ≡ false → None ≡ beside_of r from (behind vs n from)
-        place-overlaps g = let w = sym ev ∙ g in rw (above, w) at here
+        pub place-overlaps : q.base.0 < r.limit.0 → None ≡ beside_of r from (behind vs n from)
+        place-overlaps g = let w = lt-leb r.limit.0 q.base.0 g in rw (above, w) at here
 
-pub ruleset placings = (place-start, place_inside, place_end, place-on, place_here, place-overlaps)
+pub ruleset placings = (orders, place-start, place_inside, place_end, place-on, place_here, place-overlaps)
 
 -- the pairs from a place on stand apart
 pub record Kept (vs : List ℕ) (n hi i j : ℕ) : Type 0 where
@@ -132,7 +134,7 @@ module _ (vs : List ℕ) (n hi : ℕ) (fits : n ≤ capacity vs) (r : Range) (rs
 -- a range that overlaps a pair has the number of a land that is not sound
 module _ (vs : List ℕ) (n hi : ℕ) (fits : n ≤ capacity vs) (r : Range) (o : r.base < r.limit) where
   abbrev numbered : ℕ → ℕ
-  numbered i = sound_number (soundness_of (not (meet (r ∷ []) (behind vs n i))))
+  numbered i = checked_number (soundness_of (not (meet (r ∷ []) (behind vs n i))))
 
   number_of : (i : ℕ) (w : Option ℕ) → Says vs n hi fits r [] r.limit o (omega arith) tt i w → beside_number w ≡ numbered i
   number_of i (Some j) e = rw e (omega arith)

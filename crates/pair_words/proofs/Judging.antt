@@ -9,12 +9,11 @@ use Rattle.std.specs.Prelude.{Option, Some, None, Result, Ok, Err}
 use Rattle.units.specs.inner.Aims.{keeps_first}
 use Rattle.units.specs.inner.Parts.{Checked, soundness_of}
 use Rattle.units.specs.Words.{range_of}
-use Rattle.units.specs.declared.Addr.{Addr}
 use Rattle.units.specs.declared.Range as units
 use Rattle.units.specs.declared.aims.Aim.{Aim}
 use Rattle.units.specs.declared.rules.Arena.{Arena}
 use Rattle.units.specs.declared.refusals.Refusal.{Refusal}
-use Rattle.units.proofs.Cases.{sound-true, sound-false}
+use Rattle.units.proofs.Cases.{sound-true, sound-err}
 use Rattle.units.proofs.Tests.{by, and_left}
 use Rattle.units.proofs.Ways.{said-true}
 use Rattle.list_words.specs.Words.{Walk, clean, range_at, sound_walk}
@@ -119,8 +118,10 @@ pub survey-stays : (aim : Aim) (r : Bool) → r ≡ keeps_first aim → not r �
 survey-stays aim r er f = said-true r (keeps_first aim) er f
 
 module _ (a : Arena) (ws : List ℕ) (h : Chain) (vs : List ℕ) (n : ℕ) (aim : Aim) (q : Result (Spot × Cursor × ℕ) Refusal) (i : SeeksBeside a ws h.head.0 vs n (kept_of aim) q) where
-  pub survey-broken : (x : Refusal) → q ≡ Err x → Err Refusal.Damaged ≡ survey_beside a ws h vs n aim
-  survey-broken x e = damaged a ws h vs n aim (overlapping a ws h vs n (rw e at i))
+  pub survey-broken : (x : Refusal) → q ≡ Err x → Err x ≡ survey_beside a ws h vs n aim
+  survey-broken x e =
+      let k : SeeksBeside a ws h.head.0 vs n (kept_of aim) (Err x) = rw e at i in
+      rw k.0 (damaged a ws h vs n aim (overlapping a ws h vs n k.1))
 
   module _ (s : Spot) (c : Cursor) (j : ℕ) (e : q ≡ Ok (s, c, j)) where
     come : Come a ws h.head.0 (kept_of aim) s c × Abreast a ws h.head.0 vs n c j
@@ -133,8 +134,10 @@ module _ (a : Arena) (ws : List ℕ) (h : Chain) (vs : List ℕ) (n : ℕ) (aim 
     survey-abreast = come.1
 
     module _ (t : Checked) (et : t ≡ soundness_of (sound_beside a ws h vs n)) where
-      pub survey-unsound : t ≡ Err Refusal.Damaged → Err Refusal.Damaged ≡ survey_beside a ws h vs n aim
-      survey-unsound f = damaged a ws h vs n aim (sound-false (sound_beside a ws h vs n) t et f)
+      pub survey-unsound : (x : Refusal) → t ≡ Err x → Err x ≡ survey_beside a ws h vs n aim
+      survey-unsound x f =
+          let p = sound-err (sound_beside a ws h vs n) x (sym f ∙ et) in
+          rw p.1 (damaged a ws h vs n aim p.0)
 
       pub survey-sound : t ≡ Ok tt → Ok s ≡ survey_beside a ws h vs n aim
       survey-sound f = undamaged a ws h vs n aim (sound-true (sound_beside a ws h vs n) t et f) s come.0.is

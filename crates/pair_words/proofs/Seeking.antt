@@ -2,10 +2,11 @@
 use Prim.Native.Nat.{ℕ, ◌+◌, ◌-◌, ◌≤◌, ◌<◌}
 use mathlib.Core.Bool.{Bool, true, false, not}
 use mathlib.Core.List.{List}
-use mathlib.Core.Path.{◌≡◌, sym, ap, subst}
+use mathlib.Core.Path.{◌≡◌, refl, sym, ap, subst}
 use lib.Dec.{eqb}
 use lib.ListN.{length}
 use Rattle.std.specs.Prelude.{Option, Some, None, Result, Ok, Err}
+use Rattle.units.specs.declared.refusals.Refusal.{Refusal}
 use Rattle.units.specs.inner.Aims.{none_range, keeps_first, fits}
 use Rattle.units.specs.Words.{addr, range_of}
 use Rattle.units.specs.declared.Addr.{Addr}
@@ -61,8 +62,8 @@ module _ (a : Arena) (ws : List ℕ) (ready : Ready a (length ws)) (vs : List �
     pursue-end f v ev = (seek-end a ws ready g h s es p c k.seeking z ez f v ev, abreast)
 
     module _ (f : not z ≡ true) (m : Result Descriptor Fault) (em : m ≡ range_at a.base.0 a.limit.0 a.align.0 ws c.low.0 c.at.0) where
-      pub pursue-broken : (x : Fault) → m ≡ Err x → (u : Refusal) → Found (Err u)
-      pursue-broken x o u w = absurd (seek-broken a ws ready g h s es p c k.seeking z ez f m em x o x w)
+      pub pursue-broken : (x : Fault) → m ≡ Err x → (u : Refusal) → u ≡ Refusal.Damaged → Found (Err u)
+      pursue-broken x o u eu = (eu, (λ w. absurd (seek-broken a ws ready g h s es p c k.seeking z ez f m em x o x w)))
 
       module _ (d : Descriptor) (fm : m ≡ Ok d) where
         pub pursue-near : Near c d.limit.0
@@ -76,8 +77,8 @@ module _ (a : Arena) (ws : List ℕ) (ready : Ready a (length ws)) (vs : List �
           pursue-order = seek-order a ws ready g h s es p c k.seeking z ez f m em d fm y ey
 
           module _ (b : Option ℕ) (eb : b ≡ beside_of y i (behind vs n i)) where
-            pub pursue-overlaps : b ≡ None → (u : Refusal) → Found (Err u)
-            pursue-overlaps o u = abreast-overlaps a ws ready vs n h.0 c i along abreast z ez f m em d fm y ey b eb o
+            pub pursue-overlaps : b ≡ None → Found (Err Refusal.Damaged)
+            pursue-overlaps o = (refl, abreast-overlaps a ws ready vs n h.0 c i along abreast z ez f m em d fm y ey b eb o)
 
             module _ (j : ℕ) (o : b ≡ Some j) (c' : Cursor) (ec : c' ≡ onward c d.limit.0 d.next) (t : Bool) (et : t ≡ fits g y) where
               next-pairs : Abreast a ws h.0 vs n c' j

@@ -9,12 +9,11 @@ use Rattle.std.specs.Prelude.{Option, Some, None, Result, Ok, Err}
 use Rattle.units.specs.inner.Aims.{none_range, takes, Sized}
 use Rattle.units.specs.inner.Parts.{Checked, soundness_of}
 use Rattle.units.specs.Words.{addr, range_of}
-use Rattle.units.specs.declared.Addr.{Addr}
 use Rattle.units.specs.declared.Range.{Range}
 use Rattle.units.specs.declared.aims.Aim.{Aim}
 use Rattle.units.specs.declared.rules.Arena.{Arena}
 use Rattle.units.specs.declared.refusals.Refusal.{Refusal}
-use Rattle.units.proofs.Cases.{sound-true, sound-false}
+use Rattle.units.proofs.Cases.{sound-true, sound-err}
 use Rattle.model.specs.Marks as marks
 use Rattle.list_words.specs.Words.{range_at, sound_walk}
 use Rattle.list_words.specs.inner.Surveys.{Ready, walk_of, spot, start_at, onward, counts_of, at_end, keeping, Near}
@@ -51,8 +50,10 @@ module _ (a : Arena) (ws : List ℕ) (ready : Ready a (length ws)) (h : Chain) (
       counts : counts_of c h ≡ sound_walk (walk_of a ws h.head.0) h.ranges h.bytes.0
       counts = sound-counts a ws h c (along-done a ws ready h.head.0 c s.weighing.along z ez f)
 
-      pub ponder-few : t ≡ Err Refusal.Damaged → Answer (Err Refusal.Damaged)
-      ponder-few g = damaged a ws h vs n aim (unsound a ws h vs n (sym counts ∙ sound-false (counts_of c h) t et g))
+      pub ponder-few : (x : Refusal) → t ≡ Err x → Answer (Err x)
+      ponder-few x g =
+          let q = sound-err (counts_of c h) x (sym g ∙ et) in
+          rw q.1 (damaged a ws h vs n aim (unsound a ws h vs n (sym counts ∙ q.0)))
 
       pub ponder-done : t ≡ Ok tt → (v : Spot) → v ≡ at_end p k → Answer (Ok v)
       ponder-done g v ev =

@@ -68,12 +68,9 @@ pub fn table_share(nodes: &[u64], count: u64, range: Range) -> Size
     requires { Tabled nodes.now count }
     ensures { result.0 ≡ inside range.base.0 range.limit.0 (pairs nodes.now count) }
 {
-    let n = count as usize;
-    let mut i: usize = 0;
     let mut sum = Size::new(0);
-    while i < n {
+    for i in 0..count as usize {
         let here = block_words::pair_at(nodes, i);
-        i += 1;
         sum = sum.plus(common(range, here));
     }
     sum

@@ -20,8 +20,7 @@ fn place_beside(nodes: &[u64], n: usize, from: usize, here: Range) -> Option<usi
     requires from_le_n { from ≤ n }
     ensures { result ≡ beside_of here from (behind nodes.now n from) }
 {
-    let mut i = from;
-    while i < n {
+    for i in from..n {
         let pair = block_words::pair_at(nodes, i);
         if here.base < pair.limit {
             if here.limit <= pair.base {
@@ -29,9 +28,8 @@ fn place_beside(nodes: &[u64], n: usize, from: usize, here: Range) -> Option<usi
             }
             return None;
         }
-        i += 1;
     }
-    Some(i)
+    Some(n)
 }
 
 // The walk from head up to the first range that fits (none, behind the last range, where there is none), with the cursor behind it,
@@ -69,7 +67,14 @@ fn seek(
 }
 
 // The walk of an aim that keeps the first range that it takes, up to that range. No limit reaches 2^64 - 1.
-fn first(arena: Arena, words: &[u64], head: Addr, nodes: &[u64], n: usize, aim: Aim) -> Result<(Spot, Cursor, usize), Refusal>
+fn first(
+    arena: Arena,
+    words: &[u64],
+    head: Addr,
+    nodes: &[u64],
+    n: usize,
+    aim: Aim,
+) -> Result<(Spot, Cursor, usize), Refusal>
     requires ready { Ready arena (length words.now) }
     requires rising { Rising nodes.now n }
     requires aim_value { keeps_first aim ≡ true }
@@ -118,7 +123,14 @@ fn sound_on(
 }
 
 // The walk of an aim that weighs each range against what it has kept.
-fn weigh(arena: Arena, words: &[u64], chain: Chain, nodes: &[u64], n: usize, aim: Aim) -> Result<Spot, Refusal>
+fn weigh(
+    arena: Arena,
+    words: &[u64],
+    chain: Chain,
+    nodes: &[u64],
+    n: usize,
+    aim: Aim,
+) -> Result<Spot, Refusal>
     requires ready { Ready arena (length words.now) }
     requires rising { Rising nodes.now n }
     ensures { result ≡ survey_beside arena words.now chain nodes.now n aim }

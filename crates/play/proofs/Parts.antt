@@ -1,6 +1,6 @@
--- A part of some bytes that starts at a position, and a script that uses some of it; a description that goes on. Assumes nothing.
-use Rattle.std.proofs.Common.{rules, ℕ, ◌+◌, ◌-◌, ◌≤◌, ◌<◌, ◌≡◌, true, List, length, take, drop, arith}
-use Rattle.std.proofs.Math.ListN.{length-take, length-drop}
+-- A script that uses some of the bytes that it is fed; a description that goes on. Assumes nothing.
+use Rattle.std.proofs.Common.{rules, ℕ, ◌-◌, ◌≤◌, ◌<◌, ◌≡◌, true, List, length, take, drop, arith, length-drop}
+use Rattle.std.proofs.lemmas.List.{take_rest}
 use Rattle.script.specs.Calls.{fed_of, fed, told, is_describing, is_ready}
 use Rattle.script.specs.declared.Fed.{Fed}
 use Rattle.script.specs.declared.Script.{Script}
@@ -8,23 +8,18 @@ use Rattle.script.proofs.RunsExist.{to-print, prints-less}
 use Rattle.script.proofs.StillPrints.{feeds, uses-one}
 use Rattle.play.specs.inner.Steps.{Still}
 
-abbrev part : List ℕ → ℕ → List ℕ
-part bytes from = take (length bytes - from) (drop from bytes)
+module _ (bytes : List ℕ) (s : Script) (ws : List ℕ) (room : ℕ) (f : Fed) (e : f ≡ fed_of (fed s ws room bytes)) where
+  pub used-in : f.used ≤ length bytes
+  used-in = rw e ((feeds bytes s ws room).used)
 
-module _ (bytes : List ℕ) (from : ℕ) where
-  part_length : from ≤ length bytes → length (part bytes from) ≡ length bytes - from
-  part_length k = let n = length-take (length bytes - from) (drop from bytes) in let m = length-drop from bytes in omega arith
+  -- a script that can play uses a byte
+  pub uses-some : 0 < length bytes → 105 ≤ room → Still s → 0 < f.used
+  uses-some k m still =
+      let r : is_ready s.stage room ≡ true = search rules in
+      rw e (uses-one s ws bytes room k r)
 
-  module _ (s : Script) (ws : List ℕ) (room : ℕ) (f : Fed) (e : f ≡ fed_of (fed s ws room (part bytes from))) where
-    pub used-of-part : from ≤ length bytes → from + f.used ≤ length bytes
-    used-of-part k = let n = part_length k in let m = (feeds (part bytes from) s ws room).used in rw e (omega arith)
-
-    -- a script that can play uses a byte
-    pub uses-some : from < length bytes → 105 ≤ room → Still s → 0 < f.used
-    uses-some k m still =
-        let n = part_length (omega arith) in
-        let r : is_ready s.stage room ≡ true = search rules in
-        rw e (uses-one s ws (part bytes from) room (omega arith) r)
+  pub left-less : 0 < length bytes → 105 ≤ room → Still s → length (take (length bytes - f.used) (drop f.used bytes)) < length bytes
+  left-less k m still = let used = uses-some k m still in rw take_rest (omega (arith, length-drop f.used bytes))
 
 -- a description that goes on leaves less to print
 pub told-less : (s : Script) (ws : List ℕ) (room : ℕ) (f : Fed) → 42 ≤ room → is_describing s.stage ≡ true → f ≡ fed_of (told s ws room) →

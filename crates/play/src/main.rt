@@ -6,9 +6,9 @@
 // says nothing and ends with status 141, which a shell gives for a program that is ended so by the signal.
 #![tactic(auto)]
 
-ghost use Rattle.std.specs.Prelude.{[], ◌≤◌, ◌<◌, length, take, IfSome, OnOk};
+ghost use Rattle.std.specs.Prelude.{[], ◌≤◌, ◌<◌, length, take, IfOk, IfSome, OnOk};
 ghost use Rattle.std.specs.Io.KnownBytes.{Appends};
-ghost use Rattle.play.specs.inner.Steps.{ReadPrints, StepPrints, Still, Stills};
+ghost use Rattle.play.specs.inner.Steps.{ReadPrints, StepPrints, Still};
 ghost use Rattle.script.specs.Calls.{ended};
 ghost use Rattle.script.specs.Printed.{whole};
 
@@ -17,24 +17,14 @@ use std::io;
 use std::io::{ErrorKind, Read, Write};
 use std::process::ExitCode;
 use std::rt::Files;
-use streams::Input;
 
 // What failed, with the system's error.
-#[derive(Clone, Copy)]
+#[derive(Clone, Copy, Debug)]
 pub enum Fault {
     Reading(io::Error),
     Writing(io::Error),
     Closing(io::Error),
     Telling(io::Error),
-}
-
-// Where the program stands after some bytes: it goes on, the input has ended, or it cannot be read or what it prints is no
-// longer taken.
-#[derive(Clone, Copy)]
-pub enum Step {
-    More(Script),
-    Ended(Script),
-    Broken(Fault),
 }
 
 // Writes the first n bytes of the buffer.
@@ -46,20 +36,23 @@ fn put_out<W: Write>(to: &mut W, out: &[u8], n: usize) -> Result<(), Fault>
 }
 
 // Prints a description to its end.
-fn describe<W: Write>(to: &mut W, start: Script, words: &[u64], out: &mut [u8]) -> Step
+fn describe<W: Write>(
+    to: &mut W,
+    start: Script,
+    words: &[u64],
+    out: &mut [u8],
+) -> Result<Script, Fault>
     requires { 105 ≤ length out.old }
-    ensures stills { Stills result }
+    ensures still { IfOk result Still }
     ensures prints { StepPrints (W.contents to.old) (W.contents to.new) start words.now [] result words.now }
 {
     let mut script = start;
     while script.is_describing() {
         let fed = script.describe(words, out);
+        put_out(to, out, fed.at)?;
         script = fed.script;
-        if let Err(fault) = put_out(to, out, fed.at) {
-            return Step::Broken(fault);
-        }
     }
-    Step::More(script)
+    Ok(script)
 }
 
 // Plays the lines of some bytes.
@@ -69,30 +62,24 @@ fn feed<W: Write>(
     words: &mut [u64],
     out: &mut [u8],
     bytes: &[u8],
-) -> Step
+) -> Result<Script, Fault>
     requires in_bounds { 105 ≤ length out.old }
     requires still { Still start }
-    ensures stills { Stills result }
+    ensures still { IfOk result Still }
     ensures prints { StepPrints (W.contents to.old) (W.contents to.new) start words.old bytes.now result words.new }
 {
     let mut script = start;
-    let mut from: usize = 0;
-    while from < bytes.len() {
-        let fed = script.feed(words, out, &bytes[from..]);
-        from += fed.used;
-        if let Err(fault) = put_out(to, out, fed.at) {
-            return Step::Broken(fault);
-        }
-        let step = describe(to, fed.script, words, out);
-        let Step::More(next) = step else {
-            return step;
-        };
-        script = next;
+    let mut left = bytes;
+    while !left.is_empty() {
+        let fed = script.feed(words, out, left);
+        left = &left[fed.used..];
+        put_out(to, out, fed.at)?;
+        script = describe(to, fed.script, words, out)?;
     }
-    Step::More(script)
+    Ok(script)
 }
 
-// One read of the input.
+// One read of the input, and the script after it: `None` at the end.
 fn read_on<R: Read, W: Write>(
     from: &mut R,
     to: &mut W,
@@ -100,16 +87,15 @@ fn read_on<R: Read, W: Write>(
     words: &mut [u64],
     out: &mut [u8],
     space: &mut [u8],
-) -> Step
+) -> Result<Option<Script>, Fault>
     requires in_bounds { 105 ≤ length out.old }
     requires still { Still script }
-    ensures stills { Stills result }
+    ensures still { IfOk result (λ next. IfSome next Still) }
     ensures prints { 0 < length space.old → ReadPrints (R.remaining from.old) (R.remaining from.new) (W.contents to.old) (W.contents to.new) script words.old result words.new }
 {
-    match streams::read(from, space) {
-        Input::Bytes(n) => feed(to, script, words, out, &space[..n]),
-        Input::End => Step::Ended(script),
-        Input::Failed(e) => Step::Broken(Fault::Reading(e)),
+    match streams::read(from, space).map_err(Fault::Reading)? {
+        Some(n) => Ok(Some(feed(to, script, words, out, &space[..n])?)),
+        None => Ok(None),
     }
 }
 
@@ -141,10 +127,9 @@ fn run<F: Files, R: Read, W: Write>(
 {
     let mut script = Script::new();
     for _ in 0..u64::MAX {
-        match read_on(from, to, script, words, out, space) {
-            Step::More(next) => script = next,
-            Step::Ended(last) => return finish(rt, to, last, out),
-            Step::Broken(fault) => return Err(fault),
+        match read_on(from, to, script, words, out, space)? {
+            Some(next) => script = next,
+            None => return finish(rt, to, script, out),
         }
     }
     Err(Fault::Reading(io::Error::from(ErrorKind::TimedOut)))
@@ -152,10 +137,7 @@ fn run<F: Files, R: Read, W: Write>(
 
 // Whether the reader of the answers has gone away.
 fn is_unread(fault: Fault) -> bool {
-    match fault {
-        Fault::Writing(e) => e.kind() == ErrorKind::BrokenPipe,
-        _ => false,
-    }
+    matches!(fault, Fault::Writing(e) if e.kind() == ErrorKind::BrokenPipe)
 }
 
 // The line on standard error for what failed.

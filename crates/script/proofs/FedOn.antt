@@ -11,7 +11,7 @@ use Rattle.units.proofs.Tests.{and_left, and_right}
 use Rattle.lines.specs.Requests.{newline, every}
 use Rattle.lines.specs.inner.Reading.{read_more, request_in, in_line}
 use Rattle.script.specs.Printed.{turn_of}
-use Rattle.script.specs.Calls.{Done, behind, at_rest, with_byte, answered, fed, is_ready}
+use Rattle.script.specs.Calls.{Done, behind, with_byte, answered, fed, is_ready}
 use Rattle.lines.specs.declared.Reader.{Reader}
 use Rattle.script.specs.declared.Script.{Script}
 use Rattle.script.specs.declared.Stage.{Stage}
@@ -44,6 +44,3 @@ module _ (s : Script) (ws : List ℕ) (room : ℕ) (more : List ℕ) where
   pub fed-line : is_ready s.stage room ≡ true →
       fed s ws room (newline ∷ more) ≡ answered (turn_of s.stage ws (request_in s.reader)) room (λ s' ws' room'. fed s' ws' room' more)
   fed-line e = rw e
-
-  pub fed-stops : is_ready s.stage room ≡ false → fed s ws room (newline ∷ more) ≡ at_rest s ws true
-  fed-stops e = rw e

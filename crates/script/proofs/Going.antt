@@ -5,27 +5,25 @@ use mathlib.Core.List.{List, [], ◌∷◌, ◌++◌, append-nil}
 use mathlib.Core.Path.{◌≡◌, refl, sym, ap, ◌∙◌}
 use native.Mathlib.Omega.{arith}
 use borrow.Author.Tests.{leb-true}
-use lib.ListN.{length, take, drop, take-append-drop, length-drop, drop_of_length-le}
+use lib.ListN.{length, take, drop, take-append-drop, length-drop}
 use lib.Seq.{drop-cons, drop-drop, length-take-le}
-use Rattle.units.proofs.Tests.{clash, and_left}
+use Rattle.units.proofs.Tests.{and_left}
 use Rattle.lines.specs.Requests.{newline}
 use Rattle.lines.specs.inner.Reading.{ReadTo, at_start, request_in}
 use Rattle.lines.specs.declared.Read.{Read}
 use Rattle.lines.specs.declared.Reader.{Reader}
 use Rattle.lines.specs.declared.Request.{Request}
+use Rattle.std.specs.Prelude.{Option}
 use Rattle.texts.proofs.Writing.{same-behind}
 use Rattle.script.specs.Printed.{turn_of}
-use Rattle.script.specs.Calls.{Done, fed_of, over, behind, at_rest, fed, is_ready, script_start}
-use Rattle.script.specs.inner.Feeding.{Plays, Goes, Moves}
+use Rattle.script.specs.Calls.{Done, fed_of, over, behind, at_rest, fed, is_ready}
+use Rattle.script.specs.inner.Feeding.{Plays, Goes}
 use Rattle.script.specs.declared.Fed.{Fed}
 use Rattle.script.specs.declared.Script.{Script}
 use Rattle.script.specs.declared.Stage.{Stage}
 use Rattle.script.specs.declared.Turn.{Turn}
 use Rattle.script.proofs.Buffers.{text-end, text-over}
-use Rattle.script.proofs.FedOn.{behind-behind, behind-none, fed-same, fed-part, fed-line, fed-stops}
-
-pub new-script : (r : Reader) → r ≡ at_start → record { stage = Stage.Closed; reader = r } ≡ script_start
-new-script r e = rw e
+use Rattle.script.proofs.FedOn.{behind-behind, behind-none, fed-same, fed-part, fed-line}
 
 -- the bytes from a position on, in two parts
 parts : (bytes : List ℕ) (from to : ℕ) → from ≤ to → drop from bytes ≡ take (to - from) (drop from bytes) ++ drop to bytes
@@ -64,24 +62,13 @@ module _ (s : Script) (ws bytes : List ℕ) (from : ℕ) (o : Read) (t : ReadTo 
   at-newline : (o.at ≡ length bytes → ⊥) → drop o.at bytes ≡ newline ∷ drop (suc o.at) bytes
   at-newline inside = drop-cons bytes o.at 0 (here inside) ∙ rw (t.stop (here inside))
 
-  -- the line cannot be played
-  pub line-stops : (out : List ℕ) (at : ℕ) (d : Bool) → d ≡ is_ready s.stage (length out - at) → d ≡ false → (o.at ≡ length bytes → ⊥) →
-      Moves bytes from out (record { script = reader-on; used = o.at; at = at; full = true }) ws
-  line-stops out at d ed shut inside = record {
-    onward = λ k z. let t : true ≡ false = z in clash refl t;
-    stops = λ e. ap (fed reader-on ws (length out - at)) (at-newline inside) ∙ fed-stops reader-on ws (length out - at) (drop (suc o.at) bytes) (sym ed ∙ shut);
-  }
-
-pub moves-on : (bytes : List ℕ) (from : ℕ) (out : List ℕ) (f : Fed) (ws : List ℕ) → f.full ≡ false → (from < length bytes → from < f.used) → Moves bytes from out f ws
-moves-on bytes from out f ws e g = record { onward = λ k m. g k; stops = λ t. clash t e }
-
 -- A LINE
 pub has_room : (s : Stage) (out : List ℕ) (at : ℕ) (d : Bool) → d ≡ is_ready s (length out - at) → d ≡ true → at + 105 ≤ length out
 has_room s out at d e f = let g = leb-true 105 (length out - at) (and_left _ _ (sym e ∙ f)) in omega arith
 
 module _ (s : Script) (ws bytes : List ℕ) (from : ℕ) (o : Read) (t : ReadTo s.reader bytes from o) (out : List ℕ) (at : ℕ)
     (d : Bool) (ed : d ≡ is_ready s.stage (length out - at)) (yes : d ≡ true) (inside : o.at ≡ length bytes → ⊥)
-    (q : Request) (eq : q ≡ request_in o.reader) (r : Turn) (ws' out' : List ℕ)
+    (q : Option Request) (eq : q ≡ request_in o.reader) (r : Turn) (ws' out' : List ℕ)
     (p : Plays (turn_of s.stage ws q) ws' out at out' r) (rd : Reader) (er : rd ≡ at_start) where
   abbrev after : Done
   after = fed (record { stage = r.stage; reader = rd }) ws' (length out - r.at) (drop (o.at + 1) bytes)
@@ -116,9 +103,6 @@ module _ (s : Script) (ws bytes : List ℕ) (from : ℕ) (o : Read) (t : ReadTo 
       }
 
 -- LINE AFTER LINE
-pub goes-start : (s : Script) (ws bytes out : List ℕ) → Goes s ws bytes 0 out 0 (record { script = s; used = 0; at = 0; full = false }) ws out
-goes-start s ws bytes out = record { later = omega arith; used = omega arith; further = omega arith; fits = omega arith; size = refl; rest = refl; same = refl }
-
 pub goes_then : {s : Script} {ws bytes : List ℕ} {from : ℕ} {out : List ℕ} {at : ℕ} {f : Fed} {ws' out' : List ℕ} {g : Fed} {ws'' out'' : List ℕ} →
     Goes s ws bytes from out at f ws' out' → Goes f.script ws' bytes f.used out' f.at g ws'' out'' → Goes s ws bytes from out at g ws'' out''
 goes_then {out = out} {f = f} {out' = out'} {g = g} p q =
@@ -162,10 +146,6 @@ module _ (s : Script) (ws bytes out : List ℕ) (f : Fed) (ws' out' : List ℕ) 
         words = refl;
         buffer = text-over out out' f.at k p.rest;
       })
-
-  -- all bytes are used
-  pub closes-all : f.full ≡ false → length bytes ≤ f.used → Closes (fed s ws (length out) bytes) out f ws' out'
-  closes-all e k = closes false e (ap (fed f.script ws' (length out - f.at)) (drop_of_length-le bytes {i = f.used} k))
 
   -- it stopped
   pub closes-full : (mid : List ℕ) → length mid ≡ length out → f.full ≡ true →

@@ -3,11 +3,9 @@ pub mod Buffers
 pub mod Continuing
 pub mod Ways
 pub mod Asking
-pub mod Turning
 pub mod Telling
 pub mod FedOn
 pub mod Going
-pub mod Ending
 pub mod StillPrints
 pub mod RunsPrint
 pub mod RunsExist

@@ -1,12 +1,13 @@
 -- A whole input in parts: what is put out is what is printed for its lines. Assumes nothing.
 use Prim.Native.Nat.{ℕ}
-use mathlib.Core.List.{List, ◌++◌}
+use mathlib.Core.Bool.{Bool, cond}
+use mathlib.Core.List.{List, [], ◌++◌}
 use mathlib.Core.Path.{◌≡◌, sym, ap, ◌∙◌}
 use borrow.Author.Tests.{le-leb}
 use lib.ListN.{take, drop, take-append-drop}
 use lib.Seq.{drop-append-le}
 use Rattle.lines.specs.Requests.{newline, split}
-use Rattle.script.specs.Calls.{fed, told}
+use Rattle.script.specs.Calls.{fed, told, end_text}
 use Rattle.script.specs.inner.Feeding.{rest_of}
 use Rattle.script.specs.Runs.{Run, part, description, end, PrintsWhole}
 use Rattle.script.specs.declared.Script.{Script}
@@ -31,7 +32,7 @@ run-rest (part s ws input text k room p a r) =
     ap (λ (t : List ℕ). (fed s ws room (take k input)).text ++ t) (run-rest r) ∙ sym (part-rest s ws input k room)
 run-rest (description s ws input text room a r) =
     ap (λ (t : List ℕ). (told s ws room).text ++ t) (run-rest r) ∙ sym ((describes s ws room).text input)
-run-rest (end s ws room a k e) = rw (e, le-leb 2 room k)
+run-rest (end s ws room a k e) = ap (λ (t : Bool). cond t (end_text s) []) (le-leb 2 room k) ∙ rw e
 
 pub prints-whole : PrintsWhole
 prints-whole Part Room ws input text r = run-rest r ∙ from_start Stage.Closed ws (split newline input)

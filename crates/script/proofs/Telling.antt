@@ -1,11 +1,11 @@
 -- The loop that prints a description. Assumes nothing.
 use Prim.Native.Nat.{ℕ, ◌+◌, ◌-◌, ◌≤◌, ◌<◌}
 use mathlib.Core.List.{List, [], ◌∷◌, ◌++◌, append_assoc}
-use mathlib.Core.Path.{◌≡◌, refl, sym, ap, ◌∙◌}
+use mathlib.Core.Path.{◌≡◌, sym, ap, ◌∙◌}
 use native.Mathlib.Omega.{arith}
 use borrow.Author.Tests.{le-leb, lt-leb}
 use lib.ListN.{length, take, drop}
-use Rattle.units.specs.Words.{addr, word_number}
+use Rattle.units.specs.Words.{addr}
 use Rattle.units.specs.declared.Addr.{Addr}
 use Rattle.model.specs.Marks.{Range}
 use Rattle.list_land.specs.Calls.{walked, changed}
@@ -15,11 +15,10 @@ use Rattle.list_land.specs.declared.ListLand.{ListLand}
 use Rattle.texts.specs.Decimal.{line}
 use Rattle.texts.specs.inner.Writing.{Wrote}
 use Rattle.texts.proofs.Writing.{line-some, same-behind}
-use Rattle.script.specs.Printed.{ranges_from, arena_words}
-use Rattle.script.specs.Calls.{Told, onto, tell, tell_stage}
-use Rattle.script.specs.inner.Feeding.{Fits, Tells}
+use Rattle.script.specs.Printed.{ranges_from}
+use Rattle.script.specs.Calls.{Told, onto, tell}
+use Rattle.script.specs.inner.Feeding.{Tells}
 use Rattle.script.specs.declared.Stage.{Stage}
-use Rattle.script.specs.declared.Turn.{Turn}
 use Rattle.script.proofs.Buffers.{text-end, text-over}
 use Rattle.script.proofs.Describing.{goes_on, ends}
 
@@ -46,11 +45,6 @@ pub record Telling (h : ListLand) (ws start : List ℕ) (x : Addr) (out : List �
   pub same :
       tell h x (length start) (ranges_from x.0 (read_of h ws))
       ≡ onto (take at out) (tell h y (length start - at) (ranges_from y.0 (read_of h ws)))
-
-pub tell-start : (h : ListLand) (ws out : List ℕ) (x : Addr) → Telling h ws out x out x 0
-tell-start h ws out x =
-    let e : length out ≡ length out - 0 = omega arith in
-    record { size = refl; fits = omega arith; rest = refl; same = ap (λ (room : ℕ). tell h x room (ranges_from x.0 (read_of h ws))) e }
 
 module _ (h : ListLand) (ws start : List ℕ) (x : Addr) (out : List ℕ) (y : Addr) (at : ℕ) (t : Telling h ws start x out y at) where
   told-by : (s : Stage) → tell h y (length start - at) (ranges_from y.0 (read_of h ws)) ≡ record { stage = s; text = [] } →
@@ -97,18 +91,3 @@ module _ (h : ListLand) (ws start : List ℕ) (x : Addr) (out : List ℕ) (y : A
 -- a line takes room
 pub tell-less : (a b at : ℕ) {out out' : List ℕ} {k w : ℕ} → Wrote w out at (line (a ∷ b ∷ [])) out' k → at < k
 tell-less a b at w = let e = w.end in omega (arith, line-some a (b ∷ []))
-
--- A STAGE
--- where no description is under way nothing is left
-pub tells-closed : (s : Stage) (ws out : List ℕ) → s ≡ Stage.Closed → Tells (tell_stage s ws (length out)) out out (record { stage = s; at = 0 })
-tells-closed s ws out e = rw e (record { turn = refl; buffer = refl })
-
-pub tells-open : (s : Stage) (ws out : List ℕ) (h : ListLand) → s ≡ Stage.Open h → Tells (tell_stage s ws (length out)) out out (record { stage = s; at = 0 })
-tells-open s ws out h e = rw e (record { turn = refl; buffer = refl })
-
--- over all the words
-pub tells : (s : Stage) (h : ListLand) (x : Addr) (ws : List ℕ) (m k : ℕ) {out out' : List ℕ} (r : Turn) → s ≡ Stage.Describing h x → m ≡ word_number h.base.0 h.limit.0 →
-    Fits m ws k → Tells (tell h x (length out) (ranges_from x.0 (read_of h (take k ws)))) out out' r → Tells (tell_stage s ws (length out)) out out' r
-tells s h x ws m k r e f fit d =
-    let g : take k ws ≡ take (arena_words h) ws = rw f at fit.same in
-    rw e (rw g at d)

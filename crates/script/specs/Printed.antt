@@ -1,5 +1,5 @@
 -- What is printed for each line: document 01, 'The program that plays requests'. Assumes nothing.
-use Rattle.std.specs.Prelude.{ℕ, cond, List, [], ◌∷◌, ◌++◌, eqb, length, take, drop, replicate}
+use Rattle.std.specs.Prelude.{ℕ, cond, List, [], ◌∷◌, ◌++◌, eqb, length, take, drop, replicate, Option, Some, None}
 use Rattle.units.specs.Words.{word_number}
 use Rattle.units.specs.declared.Addr.{Addr}
 use Rattle.units.specs.declared.Align.{Align}
@@ -55,14 +55,14 @@ describe_turn h ws (holding rs) = record {
 }
 
 -- A request on a land, whose arena is lent whole. An arena line does not come here (`turn_of`).
-abbrev pub land_turn : ListLand → List ℕ → Request → Turned
-land_turn h ws Request.Unknown = unknown (Stage.Open h) ws
-land_turn h ws (Request.Arena b l a) = unknown (Stage.Open h) ws
-land_turn h ws (Request.Insert y) = changed_turn (inserted h ws y)
-land_turn h ws (Request.Delete y) = changed_turn (deleted h ws y)
-land_turn h ws (Request.Find w n mode) = found_turn (found h ws w n.0 mode)
-land_turn h ws (Request.Walk x) = changed_turn (walked h ws x.0)
-land_turn h ws Request.Describe = describe_turn h ws (read_of h ws)
+abbrev pub land_turn : ListLand → List ℕ → Option Request → Turned
+land_turn h ws None = unknown (Stage.Open h) ws
+land_turn h ws (Some (Request.Arena b l a)) = unknown (Stage.Open h) ws
+land_turn h ws (Some (Request.Insert y)) = changed_turn (inserted h ws y)
+land_turn h ws (Some (Request.Delete y)) = changed_turn (deleted h ws y)
+land_turn h ws (Some (Request.Find w n mode)) = found_turn (found h ws w n.0 mode)
+land_turn h ws (Some (Request.Walk x)) = changed_turn (walked h ws x.0)
+land_turn h ws (Some Request.Describe) = describe_turn h ws (read_of h ws)
 
 -- A refused arena line prints 5 and keeps the earlier arena, if any. An accepted one starts anew: all words are 0.
 abbrev pub opened_turn : Stage → List ℕ → Opened → Turned
@@ -82,20 +82,20 @@ abbrev pub arena_words : ListLand → ℕ
 arena_words h = word_number (base h) (limit h)
 
 -- A call goes by the stage: before an arena it prints "?".
-abbrev pub call_turn : Stage → List ℕ → Request → Turned
+abbrev pub call_turn : Stage → List ℕ → Option Request → Turned
 call_turn Stage.Closed ws q = unknown Stage.Closed ws
 call_turn (Stage.Open h) ws q = on_first (arena_words h) ws (λ part. land_turn h part q)
 call_turn (Stage.Describing h x) ws q = on_first (arena_words h) ws (λ part. land_turn h part q)
 
 -- What a line plays: an arena, or a call.
-abbrev pub turn_of : Stage → List ℕ → Request → Turned
-turn_of s ws Request.Unknown = call_turn s ws Request.Unknown
-turn_of s ws (Request.Arena b l a) = on_first (word_number b.0 l.0) ws (arena_turn s b l a)
-turn_of s ws (Request.Insert y) = call_turn s ws (Request.Insert y)
-turn_of s ws (Request.Delete y) = call_turn s ws (Request.Delete y)
-turn_of s ws (Request.Find w n mode) = call_turn s ws (Request.Find w n mode)
-turn_of s ws (Request.Walk x) = call_turn s ws (Request.Walk x)
-turn_of s ws Request.Describe = call_turn s ws Request.Describe
+abbrev pub turn_of : Stage → List ℕ → Option Request → Turned
+turn_of s ws None = call_turn s ws None
+turn_of s ws (Some (Request.Arena b l a)) = on_first (word_number b.0 l.0) ws (arena_turn s b l a)
+turn_of s ws (Some (Request.Insert y)) = call_turn s ws (Some (Request.Insert y))
+turn_of s ws (Some (Request.Delete y)) = call_turn s ws (Some (Request.Delete y))
+turn_of s ws (Some (Request.Find w n mode)) = call_turn s ws (Some (Request.Find w n mode))
+turn_of s ws (Some (Request.Walk x)) = call_turn s ws (Some (Request.Walk x))
+turn_of s ws (Some Request.Describe) = call_turn s ws (Some Request.Describe)
 
 -- One line of base and limit for each range.
 abbrev pub range_lines : List Range → List ℕ

@@ -60,8 +60,7 @@ impl Script {
     pub fn is_describing(self) -> bool
         ensures { result ≡ is_describing self.stage }
     {
-        let stage = self.stage;
-        stage.is_describing()
+        self.stage.is_describing()
     }
 
     // The bytes from a position on, up to the end of a line, which is then played.
@@ -72,8 +71,7 @@ impl Script {
         ensures moves { Moves bytes.now from out.old result words.new }
     {
         let stage = self.stage;
-        let start = self.reader;
-        let read = start.read(bytes, from);
+        let read = self.reader.read(bytes, from);
         let reader = read.reader;
         if read.at == bytes.len() {
             return Fed {
@@ -83,16 +81,14 @@ impl Script {
                 full: false,
             };
         }
-        let used = read.at + 1;
         if stage.is_ready(out.len() - at) {
             let turn = stage.play(words, reader.request(), out, at);
-            let next = turn.stage;
             return Fed {
                 script: Script {
-                    stage: next,
+                    stage: turn.stage,
                     reader: Reader::new(),
                 },
-                used,
+                used: read.at + 1,
                 at: turn.at,
                 full: false,
             };
@@ -118,8 +114,7 @@ impl Script {
             full: false,
         };
         while fed.used < bytes.len() {
-            let script = fed.script;
-            let next = script.line(words, out, fed.at, bytes, fed.used);
+            let next = fed.script.line(words, out, fed.at, bytes, fed.used);
             if next.full {
                 return next;
             }
@@ -133,18 +128,15 @@ impl Script {
         ensures value { result ≡ fed_of (told self words.now (length out.old)) }
         ensures out_after { out.new ≡ over (told self words.now (length out.old)).text out.old }
     {
-        let stage = self.stage;
-        let reader = self.reader;
-        let turn = stage.describe(words, out);
-        let next = turn.stage;
+        let turn = self.stage.describe(words, out);
         Fed {
             script: Script {
-                stage: next,
-                reader,
+                stage: turn.stage,
+                reader: self.reader,
             },
             used: 0,
             at: turn.at,
-            full: next.is_describing(),
+            full: turn.stage.is_describing(),
         }
     }
 
@@ -153,11 +145,10 @@ impl Script {
         ensures value { result ≡ length (ended self (length out.old)) }
         ensures out_after { out.new ≡ over (ended self (length out.old)) out.old }
     {
-        let reader = self.reader;
         if out.len() < 2 {
             return 0;
         }
-        if reader.begun() {
+        if self.reader.begun() {
             let next = texts::put_byte(out, 0, b'?');
             return texts::put_byte(out, next, b'\n');
         }

@@ -1,5 +1,5 @@
 // One request played, and its answer written.
-ghost use Rattle.std.specs.Prelude.{[], ◌∷◌, ◌≡◌, ◌+◌, ◌≤◌, length, replicate};
+ghost use Rattle.std.specs.Prelude.{[], ◌∷◌, ◌≡◌, ◌+◌, ◌≤◌, length, Some};
 ghost use Rattle.units.specs.Words.{word_number};
 ghost use Rattle.list_land.specs.Layout.{read_of};
 ghost use Rattle.texts.specs.Decimal.{line};
@@ -18,7 +18,7 @@ use units::{Addr, Arena};
 fn words_between(base: Addr, limit: Addr) -> usize
     ensures { result ≡ word_number base.0 limit.0 }
 {
-    if limit.lt(base) {
+    if limit < base {
         return 0;
     }
     limit.word_from(base)
@@ -28,18 +28,7 @@ fn words_between(base: Addr, limit: Addr) -> usize
 fn fit(n: usize, words: &[u64]) -> usize
     ensures { Fits n words.now result }
 {
-    if n < words.len() { n } else { words.len() }
-}
-
-// Sets all words to 0.
-fn clear(words: &mut [u64])
-    ensures { words.new ≡ replicate (length words.old) 0 }
-{
-    let mut i: usize = 0;
-    while i < words.len() {
-        words[i] = 0;
-        i += 1;
-    }
+    n.min(words.len())
 }
 
 fn unknown(stage: Stage, out: &mut [u8], at: usize) -> Turn
@@ -58,11 +47,10 @@ fn put_change(c: Changed, out: &mut [u8], at: usize) -> Turn
     requires { at + 105 ≤ length out.old }
     ensures { Says (Stage·.Open c.land) (line (c.answer ∷ c.range.base.0 ∷ c.range.limit.0 ∷ [])) out.old at out.new result }
 {
-    let land = c.land;
-    let range = c.range;
+    let numbers = [c.answer, c.range.base.number(), c.range.limit.number()];
     Turn {
-        stage: Stage::Open(land),
-        at: texts::put_three(out, at, c.answer, range.base.number(), range.limit.number()),
+        stage: Stage::Open(c.land),
+        at: texts::put_line(out, at, &numbers),
     }
 }
 
@@ -71,50 +59,50 @@ fn put_found(f: Found, out: &mut [u8], at: usize) -> Turn
     requires { at + 105 ≤ length out.old }
     ensures { Says (Stage·.Open f.land) (line (f.answer ∷ f.range.base.0 ∷ f.range.limit.0 ∷ f.old.base.0 ∷ f.old.limit.0 ∷ [])) out.old at out.new result }
 {
-    let land = f.land;
-    let range = f.range;
-    let old = f.old;
-    let next = texts::put(out, at, f.answer, b' ');
+    let (base, limit) = (f.range.base.number(), f.range.limit.number());
+    let (old_base, old_limit) = (f.old.base.number(), f.old.limit.number());
+    let numbers = [f.answer, base, limit, old_base, old_limit];
     Turn {
-        stage: Stage::Open(land),
-        at: texts::put_four(
-            out,
-            next,
-            range.base.number(),
-            range.limit.number(),
-            old.base.number(),
-            old.limit.number(),
-        ),
+        stage: Stage::Open(f.land),
+        at: texts::put_line(out, at, &numbers),
     }
 }
 
 // The first line of a description.
 fn describe(land: ListLand, words: &[u64], out: &mut [u8], at: usize) -> Turn
     requires { at + 105 ≤ length out.old }
-    ensures { Plays (land_turn land words.now Request·.Describe) words.now out.old at out.new result }
+    ensures { Plays (land_turn land words.now (Some Request·.Describe)) words.now out.old at out.new result }
 {
     let base = land.base;
     let met = land.walk(words, base);
     if 2 < met.answer {
         return Turn {
             stage: Stage::Open(land),
-            at: texts::put_three(out, at, met.answer, 0, 0),
+            at: texts::put_line(out, at, &[met.answer, 0, 0]),
         };
     }
     Turn {
         stage: Stage::Describing(land, base),
-        at: texts::put_three(out, at, 0, land.ranges, land.bytes.number()),
+        at: texts::put_line(out, at, &[0, land.ranges, land.bytes.number()]),
     }
 }
 
 // A request on a land whose arena is lent whole.
-fn ask(land: ListLand, words: &mut [u64], request: Request, out: &mut [u8], at: usize) -> Turn
+fn ask(
+    land: ListLand,
+    words: &mut [u64],
+    request: Option<Request>,
+    out: &mut [u8],
+    at: usize,
+) -> Turn
     requires { at + 105 ≤ length out.old }
     ensures { Plays (land_turn land words.old request) words.new out.old at out.new result }
 {
+    let Some(request) = request else {
+        return unknown(Stage::Open(land), out, at);
+    };
     match request {
-        Request::Unknown => unknown(Stage::Open(land), out, at),
-        Request::Arena(_, _, _) => unknown(Stage::Open(land), out, at),
+        Request::Arena(..) => unknown(Stage::Open(land), out, at),
         Request::Insert(range) => put_change(land.insert(words, range), out, at),
         Request::Delete(range) => put_change(land.delete(words, range), out, at),
         Request::Find(which, size, mode) => put_found(land.find(words, which, size, mode), out, at),
@@ -124,7 +112,13 @@ fn ask(land: ListLand, words: &mut [u64], request: Request, out: &mut [u8], at: 
 }
 
 // The same on the first words of those that are there.
-fn ask_in(land: ListLand, words: &mut [u64], request: Request, out: &mut [u8], at: usize) -> Turn
+fn ask_in(
+    land: ListLand,
+    words: &mut [u64],
+    request: Option<Request>,
+    out: &mut [u8],
+    at: usize,
+) -> Turn
     requires { at + 105 ≤ length out.old }
     ensures { Plays (on_first (arena_words land) words.old (λ part. land_turn land part request)) words.new out.old at out.new result }
 {
@@ -139,16 +133,15 @@ fn open(stage: Stage, arena: Arena, words: &mut [u64], out: &mut [u8], at: usize
 {
     let opened = ListLand::open(arena.base, arena.limit, arena.align, words);
     if opened.answer == 0 {
-        clear(words);
-        let land = opened.land;
+        words.fill(0);
         return Turn {
-            stage: Stage::Open(land),
-            at: texts::put(out, at, 0, b'\n'),
+            stage: Stage::Open(opened.land),
+            at: texts::put_line(out, at, &[0]),
         };
     }
     Turn {
         stage,
-        at: texts::put(out, at, opened.answer, b'\n'),
+        at: texts::put_line(out, at, &[opened.answer]),
     }
 }
 
@@ -176,7 +169,7 @@ fn lines_from(land: ListLand, words: &[u64], start: Addr, out: &mut [u8]) -> Tur
         }
         let range = met.range;
         from = range.limit;
-        at = texts::put_two(out, at, range.base.number(), range.limit.number());
+        at = texts::put_line(out, at, &[range.base.number(), range.limit.number()]);
     }
     Turn {
         stage: Stage::Describing(land, from),
@@ -188,35 +181,35 @@ impl Stage {
     pub(crate) fn is_describing(self) -> bool
         ensures { result ≡ is_describing self }
     {
-        match self {
-            Stage::Closed => false,
-            Stage::Open(_) => false,
-            Stage::Describing(_, _) => true,
-        }
+        matches!(self, Stage::Describing(..))
     }
 
     // Whether a request can be played: no description is under way, and there is room for an answer.
     pub(crate) fn is_ready(self, room: usize) -> bool
         ensures { result ≡ is_ready self room }
     {
-        if room < 105 {
-            return false;
-        }
-        !self.is_describing()
+        105 <= room && !self.is_describing()
     }
 
     // A request, on words of which an arena may take the first.
-    pub(crate) fn play(self, words: &mut [u64], request: Request, out: &mut [u8], at: usize) -> Turn
+    pub(crate) fn play(
+        self,
+        words: &mut [u64],
+        request: Option<Request>,
+        out: &mut [u8],
+        at: usize,
+    ) -> Turn
         requires { at + 105 ≤ length out.old }
         ensures { Plays (turn_of self words.old request) words.new out.old at out.new result }
     {
-        if let Request::Arena(base, limit, align) = request {
+        if let Some(Request::Arena(base, limit, align)) = request {
             return open_in(self, Arena { base, limit, align }, words, out, at);
         }
         match self {
             Stage::Closed => unknown(self, out, at),
-            Stage::Open(land) => ask_in(land, words, request, out, at),
-            Stage::Describing(land, _) => ask_in(land, words, request, out, at),
+            Stage::Open(land) | Stage::Describing(land, _) => {
+                ask_in(land, words, request, out, at)
+            }
         }
     }
 
@@ -229,8 +222,7 @@ impl Stage {
                 let n = fit(words_between(land.base, land.limit), words);
                 lines_from(land, &words[..n], from, out)
             }
-            Stage::Closed => Turn { stage: self, at: 0 },
-            Stage::Open(_) => Turn { stage: self, at: 0 },
+            Stage::Closed | Stage::Open(_) => Turn { stage: self, at: 0 },
         }
     }
 }

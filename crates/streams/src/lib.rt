@@ -15,14 +15,6 @@ use std::io::{ErrorKind, Read, Write};
 use std::rt::{Env, Files};
 use std::{fs, io, thread};
 
-// What a read brought: so many bytes, one at least, at the start of the buffer; the end of the input; or a failure.
-#[derive(Clone, Copy)]
-pub enum Input {
-    Bytes(usize),
-    End,
-    Failed(io::Error),
-}
-
 // Whether the call that failed so is to be tried again. Where it would have to wait, others run first.
 fn is_passing(error: &io::Error) -> bool {
     match error.kind() {
@@ -35,23 +27,21 @@ fn is_passing(error: &io::Error) -> bool {
     }
 }
 
-// One read. Into a buffer of no bytes nothing can be read: that looks like the end of the input.
-pub fn read<R: Read>(from: &mut R, buf: &mut [u8]) -> Input
+// One read: how many bytes it brought to the start of the buffer, one at least, or `None` at the end of the input. Into a buffer
+// of no bytes nothing can be read: that looks like the end of the input.
+pub fn read<R: Read>(from: &mut R, buf: &mut [u8]) -> io::Result<Option<usize>>
     ensures holds { Holds result buf.new }
     ensures took { Took (R.remaining from.old) (R.remaining from.new) result buf.new }
 {
     for _ in 0..u64::MAX {
         match from.read(buf) {
-            Ok(0) => return Input::End,
-            Ok(n) => return Input::Bytes(n),
-            Err(e) => {
-                if !is_passing(&e) {
-                    return Input::Failed(e);
-                }
-            }
+            Ok(0) => return Ok(None),
+            Ok(n) => return Ok(Some(n)),
+            Err(e) if !is_passing(&e) => return Err(e),
+            Err(_) => {}
         }
     }
-    Input::Failed(io::Error::from(ErrorKind::TimedOut))
+    Err(io::Error::from(ErrorKind::TimedOut))
 }
 
 // One write: how many of the first bytes it took.
@@ -63,11 +53,8 @@ fn write_some<W: Write>(to: &mut W, bytes: &[u8]) -> io::Result<usize>
     for _ in 0..u64::MAX {
         match to.write(bytes) {
             Ok(n) => return Ok(n),
-            Err(e) => {
-                if !is_passing(&e) {
-                    return Err(e);
-                }
-            }
+            Err(e) if !is_passing(&e) => return Err(e),
+            Err(_) => {}
         }
     }
     Err(io::Error::from(ErrorKind::TimedOut))
@@ -77,25 +64,23 @@ fn write_some<W: Write>(to: &mut W, bytes: &[u8]) -> io::Result<usize>
 pub fn write<W: Write>(to: &mut W, bytes: &[u8]) -> io::Result<()>
     ensures { OnOk result (Appends (W.contents to.old) (W.contents to.new) bytes.now) }
 {
-    let mut from: usize = 0;
-    while from < bytes.len() {
-        let put = write_some(to, &bytes[from..])?;
-        if put == 0 {
+    let mut left = bytes;
+    while !left.is_empty() {
+        let n = write_some(to, left)?;
+        if n == 0 {
             return Err(io::Error::from(ErrorKind::WriteZero));
         }
-        from += put;
+        left = &left[n..];
     }
     Ok(())
 }
 
 // Whether an error says only that there is nothing to ask: a file that cannot be synchronized, or one that is open for no writing.
 fn is_silent(kind: ErrorKind) -> bool {
-    match kind {
-        ErrorKind::InvalidInput => true,
-        ErrorKind::Unsupported => true,
-        ErrorKind::ReadOnlyFilesystem => true,
-        _ => false,
-    }
+    matches!(
+        kind,
+        ErrorKind::InvalidInput | ErrorKind::Unsupported | ErrorKind::ReadOnlyFilesystem
+    )
 }
 
 // Ends the writing to a descriptor, by its path, and answers whether all that was written is kept, as far as the system says it.

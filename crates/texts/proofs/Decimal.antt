@@ -2,7 +2,7 @@
 use Prim.Native.Nat.{ℕ, zero, suc, ◌+◌, ◌-◌, ◌*◌, ◌/◌, ◌%◌, ◌^◌, ◌≤◌, ◌<◌}
 use mathlib.Core.Bool.{true}
 use mathlib.Core.List.{List, [], ◌∷◌}
-use mathlib.Core.Option.{some}
+use Rattle.std.specs.Prelude.{Some}
 use mathlib.Core.Path.{◌≡◌, refl, ap, ◌∙◌}
 use native.Mathlib.Omega.{arith}
 use native.Mathlib.Nat.{pow-suc}
@@ -68,9 +68,9 @@ unfolding decimal
 decimal-value n = spell-value behind_first n []
 
 -- a number of 64 bits as text is read as that number
-number_of : (n : ℕ) (t : List ℕ) → 1 ≤ length t → every is_digit t ≡ true → value_from 0 t ≡ n → n < word_limit → number t ≡ some n
+number_of : (n : ℕ) (t : List ℕ) → 1 ≤ length t → every is_digit t ≡ true → value_from 0 t ≡ n → n < word_limit → number t ≡ Some n
 number_of n [] k d v m = absurd (omega arith)
 number_of n (b ∷ bs) k d v m = rw (d, v, lt-ltb n word_limit m)
 
-pub decimal-number : (n : ℕ) → n < word_limit → number (decimal n) ≡ some n
+pub decimal-number : (n : ℕ) → n < word_limit → number (decimal n) ≡ Some n
 decimal-number n m = number_of n (decimal n) (decimal-some n) (decimal-digits n m) (decimal-value n) m

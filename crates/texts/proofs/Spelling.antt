@@ -1,5 +1,5 @@
 -- The digits of a number taken one by one, the last one first. Assumes nothing.
-use Prim.Native.Nat.{ℕ, zero, suc, ◌+◌, ◌/◌, ◌%◌, ◌^◌, ◌≤◌, ◌<◌}
+use Prim.Native.Nat.{ℕ, zero, suc, ◌+◌, ◌*◌, ◌/◌, ◌%◌, ◌^◌, ◌≤◌, ◌<◌, max}
 use mathlib.Core.List.{List, [], ◌∷◌}
 use mathlib.Core.Path.{◌≡◌, refl, sym, ◌∙◌}
 use native.Mathlib.Omega.{arith}
@@ -7,7 +7,7 @@ use native.Mathlib.Nat.{pow-suc}
 use lib.ListN.{length}
 use borrow.Author.Tests.{lt-ltb, le-ltb}
 use Rattle.texts.specs.Decimal.{spelled, behind_first, decimal}
-use Rattle.texts.proofs.Decimal.{spell-longer, decimal-most}
+use Rattle.texts.proofs.Decimal.{spell-longer}
 
 -- one digit
 pub spell-end : (k n : ℕ) (t : List ℕ) → n ≤ 9 → spelled k n t ≡ (48 + n) ∷ t
@@ -43,29 +43,25 @@ front-done n rest t h p = sym h.is ∙ spell-end h.fuel rest t p
 pub front-longer : (n rest : ℕ) (t : List ℕ) → Front n rest t → 1 + length t ≤ length (decimal n)
 front-longer n rest t h = rw (← h.is) (spell-longer h.fuel rest t)
 
--- k digits, and one more for each that is left behind the first
-pub record Counting (n k rest : ℕ) : Type 0 where
-  pub text : List ℕ
-  pub front : Front n rest text
-  pub many : k ≡ 1 + length text
+-- how many digits there are
+pow-some : (k : ℕ) → 0 < 10 ^ k
+pow-some zero = omega arith
+pow-some (suc k) = let w = pow-suc 10 k in let h = pow-some k in omega arith
 
-pub count-start : (n : ℕ) → n < 18446744073709551616 → Counting n 1 n
-count-start n p = record { text = []; front = front-start n p; many = refl }
+spell-places : (f k n : ℕ) (t : List ℕ) → 10 ^ k ≤ n → n < 10 * 10 ^ k → k ≤ f → length (spelled f n t) ≡ k + 1 + length t
+spell-places zero zero n t p q r = omega arith
+spell-places zero (suc k) n t p q r = absurd (omega arith)
+spell-places (suc f) zero n t p q r = rw (lt-ltb n 10 (omega arith)) (omega arith)
+spell-places (suc f) (suc k) n t p q r =
+    let w = pow-suc 10 k in
+    let one : 0 < 10 ^ k = pow-some k in
+    rw (le-ltb n 10 (omega arith)) (let h = spell-places f k (n / 10) ((48 + n % 10) ∷ t) (omega arith) (omega arith) (omega arith) in omega arith)
 
-pub count-few : (n k rest : ℕ) → Counting n k rest → k ≤ 20
-count-few n k rest h =
-    let a = h.many in
-    let b = front-longer n rest h.text h.front in
-    let d = decimal-most n in
-    omega arith
-
-pub count_next : (n k rest k' rest' : ℕ) → Counting n k rest → 9 < rest → k' ≡ k + 1 → rest' ≡ rest / 10 → Counting n k' rest'
-count_next n k rest k' rest' h p d e =
-    let a = h.many in
-    record { text = (48 + rest % 10) ∷ h.text; front = rw e (front-next n rest h.text h.front p); many = omega arith }
-
-pub count-done : (n k rest : ℕ) → Counting n k rest → rest ≤ 9 → k ≡ length (decimal n)
-count-done n k rest h p =
-    let a = h.many in
-    let d : length (decimal n) ≡ 1 + length h.text = rw (front-done n rest h.text h.front p) (omega arith) in
+-- the digit 0 is one as well
+pub decimal_places : (n m k : ℕ) → m ≡ max n 1 → 10 ^ k ≤ m → m < 10 * 10 ^ k → k < 20 → k + 1 ≡ length (decimal n)
+unfolding decimal
+decimal_places zero m zero e p q r = refl
+decimal_places zero m (suc k) e p q r = let w = pow-suc 10 k in let one : 0 < 10 ^ k = pow-some k in absurd (omega arith)
+decimal_places (suc n) m k e p q r =
+    let h = spell-places behind_first k (suc n) [] (omega arith) (omega arith) (omega arith) in
     omega arith

@@ -1,10 +1,10 @@
 -- A byte written, and texts written one behind the other. Assumes nothing.
-use Prim.Native.Nat.{ℕ, suc, ◌+◌, ◌-◌, ◌≤◌}
-use mathlib.Core.List.{List, [], ◌∷◌, ◌++◌, append_assoc}
-use mathlib.Core.Path.{◌≡◌, sym, ap, ◌∙◌}
+use Prim.Native.Nat.{ℕ, suc, ◌+◌, ◌-◌, ◌*◌, ◌≤◌, ◌<◌}
+use mathlib.Core.List.{List, [], ◌∷◌, ◌++◌, append_assoc, append-nil}
+use mathlib.Core.Path.{◌≡◌, refl, sym, ap, ◌∙◌}
 use native.Mathlib.Omega.{arith}
-use lib.ListN.{length, take, drop, set, length-set, length-append}
-use lib.Seq.{take-suc-set, append_snoc, drop-set-lt, drop-drop}
+use lib.ListN.{length, take, drop, get_or, set, length-set, length-append}
+use lib.Seq.{take-suc, take_all, take-suc-set, append_snoc, drop-set-lt, drop-drop}
 use Rattle.texts.specs.Decimal.{decimal, line}
 use Rattle.texts.specs.inner.Writing.{Wrote}
 use Rattle.texts.proofs.Decimal.{decimal-some}
@@ -44,18 +44,41 @@ wrote_then {b = b} {at = at} {t = t} {a = a} {n = n} {t' = t'} {n' = n'} w w' =
       behind = w'.behind ∙ same-behind a b n n' (omega arith) w.behind;
     }
 
--- a number and a space in front of the rest of a line
-pub line-more : (n m : ℕ) (ns : List ℕ) → (decimal n ++ (32 ∷ [])) ++ line (m ∷ ns) ≡ line (n ∷ m ∷ ns)
-unfolding line
-line-more n m ns = append_snoc (decimal n) 32 (line (m ∷ ns))
+-- numbers with a space behind each
+abbrev pub spaced : List ℕ → List ℕ
+spaced [] = []
+spaced (n ∷ ns) = (decimal n ++ (32 ∷ [])) ++ spaced ns
 
-pub wrote-last : (n : ℕ) {w : ℕ} {b : List ℕ} {at : ℕ} {a : List ℕ} {k : ℕ} → Wrote w b at (decimal n ++ (10 ∷ [])) a k → Wrote w b at (line (n ∷ [])) a k
-unfolding line
-wrote-last n p = p
+spaced-append : (ns ms : List ℕ) → spaced (ns ++ ms) ≡ spaced ns ++ spaced ms
+spaced-append [] ms = refl
+spaced-append (n ∷ ns) ms = ap (λ (l : List ℕ). (decimal n ++ (32 ∷ [])) ++ l) (spaced-append ns ms) ∙ sym (append_assoc (decimal n ++ (32 ∷ [])) (spaced ns) (spaced ms))
 
-pub wrote-line : (n m : ℕ) (ns : List ℕ) {w : ℕ} {b : List ℕ} {at : ℕ} {a : List ℕ} {k : ℕ} {a' : List ℕ} {k' : ℕ} →
-    Wrote 21 b at (decimal n ++ (32 ∷ [])) a k → Wrote w a k (line (m ∷ ns)) a' k' → Wrote (21 + w) b at (line (n ∷ m ∷ ns)) a' k'
-wrote-line n m ns p q = rw (← line-more n m ns) (wrote_then p q)
+spaced-line : (ns : List ℕ) (n : ℕ) → spaced ns ++ (decimal n ++ (10 ∷ [])) ≡ line (ns ++ (n ∷ []))
+unfolding line
+spaced-line [] n = refl
+spaced-line (m ∷ []) n = append_assoc (decimal m ++ (32 ∷ [])) [] _ ∙ append_snoc (decimal m) 32 (decimal n ++ (10 ∷ []))
+spaced-line (m ∷ k ∷ ns) n =
+    append_assoc (decimal m ++ (32 ∷ [])) (spaced (k ∷ ns)) _ ∙ ap (λ (l : List ℕ). (decimal m ++ (32 ∷ [])) ++ l) (spaced-line (k ∷ ns) n) ∙
+    append_snoc (decimal m) 32 (line ((k ∷ ns) ++ (n ∷ [])))
+
+module _ (before : List ℕ) (at i : ℕ) (ns : List ℕ) {out : List ℕ} {next : ℕ} (w : Wrote (21 * i) before at (spaced (take i ns)) out next) {out' : List ℕ} {r : ℕ} where
+  pub line-more : i < length ns → Wrote 21 out next (decimal (get_or ns i 0) ++ (32 ∷ [])) out' r → Wrote (21 * (i + 1)) before at (spaced (take (i + 1) ns)) out' r
+  line-more k p =
+      let x = get_or ns i 0 in
+      let one : i + 1 ≡ suc i = omega arith in
+      let most : 21 * i + 21 ≡ 21 * (i + 1) = omega arith in
+      let e : spaced (take i ns) ++ (decimal x ++ (32 ∷ [])) ≡ spaced (take (i + 1) ns) =
+      ap (λ (l : List ℕ). spaced (take i ns) ++ l) (sym (append-nil (decimal x ++ (32 ∷ [])))) ∙
+      (sym (spaced-append (take i ns) (x ∷ [])) ∙ ap spaced (sym (take-suc ns i 0 k) ∙ ap (λ (j : ℕ). take j ns) (sym one))) in
+      rw (← most, ← e) (wrote_then w p)
+
+  pub line-end : length ns ≤ i → i ≤ length ns → (numbers : List ℕ) (n : ℕ) → (numbers ≡ ns ++ (n ∷ [])) × (length ns + 1 ≡ length numbers) →
+      Wrote 21 out next (decimal n ++ (10 ∷ [])) out' r → Wrote (21 * length numbers) before at (line numbers) out' r
+  line-end k m numbers n (e, l) p =
+      let most : 21 * i + 21 ≡ 21 * length numbers = omega arith in
+      let t : spaced (take i ns) ++ (decimal n ++ (10 ∷ [])) ≡ line numbers =
+      ap (λ (q : List ℕ). spaced q ++ (decimal n ++ (10 ∷ []))) (take_all i ns k) ∙ (spaced-line ns n ∙ ap line (sym e)) in
+      rw (← most, ← t) (wrote_then w p)
 
 -- a line is not empty
 pub line-some : (n : ℕ) (ns : List ℕ) → 1 ≤ length (line (n ∷ ns))

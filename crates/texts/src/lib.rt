@@ -3,21 +3,16 @@
 // Every function here is proved, and the crate assumes nothing of its own.
 #![tactic(auto)]
 
-ghost use Rattle.std.specs.Prelude.{◌≡◌, [], ◌∷◌, ◌++◌, ◌+◌, ◌≤◌, ◌<◌, length};
+ghost use Rattle.std.specs.Prelude.{◌≡◌, [], ◌∷◌, ◌++◌, ◌+◌, ◌*◌, ◌≤◌, ◌<◌, length};
 ghost use Rattle.texts.specs.Decimal.{decimal, line};
 ghost use Rattle.texts.specs.inner.Writing.{Wrote};
 
 // How many digits a number has.
+#[tactic(auto, using(crate::proofs::Spelling::decimal_places))]
 fn places(n: u64) -> usize
     ensures { result ≡ length (decimal n) }
 {
-    let mut k: usize = 1;
-    let mut left = n;
-    while 9 < left {
-        left /= 10;
-        k += 1;
-    }
-    k
+    n.max(1).ilog10() as usize + 1
 }
 
 // The digit d.
@@ -25,7 +20,7 @@ fn glyph(d: u64) -> u8
     requires { d < 10 }
     ensures { result ≡ 48 + d }
 {
-    48 + d as u8
+    b'0' + d as u8
 }
 
 // Writes a number at a position of a buffer and a byte behind it, and returns the position after them.
@@ -55,27 +50,16 @@ pub fn put_byte(out: &mut [u8], at: usize, b: u8) -> usize
     at + 1
 }
 
-// Writes a line of two numbers; of three; of four.
-pub fn put_two(out: &mut [u8], at: usize, a: u64, b: u64) -> usize
-    requires { at + 42 ≤ length out.old }
-    ensures { Wrote 42 out.old at (line (a ∷ b ∷ [])) out.new result }
+// Writes a line of numbers at a position of a buffer, and returns the position after it.
+pub fn put_line(out: &mut [u8], at: usize, numbers: &[u64]) -> usize
+    requires some { 0 < length numbers.now }
+    requires room { at + 21 * length numbers.now ≤ length out.old }
+    ensures { Wrote (21 * length numbers.now) out.old at (line numbers.now) out.new result }
 {
-    let next = put(out, at, a, b' ');
-    put(out, next, b, b'\n')
-}
-
-pub fn put_three(out: &mut [u8], at: usize, a: u64, b: u64, c: u64) -> usize
-    requires { at + 63 ≤ length out.old }
-    ensures { Wrote 63 out.old at (line (a ∷ b ∷ c ∷ [])) out.new result }
-{
-    let next = put(out, at, a, b' ');
-    put_two(out, next, b, c)
-}
-
-pub fn put_four(out: &mut [u8], at: usize, a: u64, b: u64, c: u64, d: u64) -> usize
-    requires { at + 84 ≤ length out.old }
-    ensures { Wrote 84 out.old at (line (a ∷ b ∷ c ∷ d ∷ [])) out.new result }
-{
-    let next = put(out, at, a, b' ');
-    put_three(out, next, b, c, d)
+    let (last, front) = numbers.split_last().unwrap();
+    let mut next = at;
+    for n in front {
+        next = put(out, next, *n, b' ');
+    }
+    put(out, next, *last, b'\n')
 }

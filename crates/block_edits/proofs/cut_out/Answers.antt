@@ -1,5 +1,5 @@
 -- `cut_out` meets its contract. Assumes nothing.
-use Rattle.block_words.proofs.Orders.{told-lt, told-ge}
+use Rattle.units.proofs.Orders.{told-lt, told-ge}
 use Rattle.block_edits.proofs.CutAnswers.{cut-behind, cut_below, cut-held, cut-full, cut-done}
 use Rattle.block_edits.proofs.cut_out.Goals as goal
 

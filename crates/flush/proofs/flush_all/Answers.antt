@@ -19,4 +19,4 @@ plus-requires c =
 
 pub returns : goal.returns
 returns c =
-    accepted _ _ _ _ c.requires _ c.arena.ensures _ _ c.transfer-done.ensures _ c.minus.ensures _ c.close.ensures _ c.plus.ensures _ c.close-2.ensures
+    accepted _ _ _ _ c.requires _ c.arena.ensures _ _ c.transfer-done.ensures _ c.minus.ensures _ c.close.ensures _ c.plus.ensures _ c.close-2.ensures _ c.stop_number.ensures

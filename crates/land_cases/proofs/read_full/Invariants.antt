@@ -3,7 +3,7 @@ use Rattle.std.proofs.Common.{◌≡◌, ◌-◌, ◌≤◌, length}
 use Rattle.land_cases.proofs.read_full.Given as goal
 
 abbrev pub invariant-loop-done : goal.invariant-loop-done
-invariant-loop-done g l = (l.done ≤ length l.text) × (length l.text ≡ length l.initial.text)
+invariant-loop-done g l = (l.done ≤ length l.space) × (length l.space ≡ length l.initial.space)
 
 abbrev pub decreases-loop-done : goal.decreases-loop-done
-decreases-loop-done g l = length l.text - l.done
+decreases-loop-done g l = length l.space - l.done

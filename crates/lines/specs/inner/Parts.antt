@@ -1,18 +1,18 @@
--- What two or more fields of a form make: contracts of the forms' parts. Assumes nothing.
-use Rattle.std.specs.Prelude.{ℕ}
-use Rattle.std.proofs.Math.Option.{Option, none, some}
+-- What fields of a form make: contracts of the forms' parts. Assumes nothing.
+use Rattle.std.specs.Prelude.{ℕ, Option, Some, None}
 use Rattle.units.specs.Words.{range_of}
-use Rattle.units.specs.declared.Mode.{Mode}
-use Rattle.lines.specs.declared.forms.Bounds.{Bounds}
-use Rattle.lines.specs.declared.forms.Ending.{Ending}
+use Rattle.units.specs.declared.Range.{Range}
+use Rattle.lines.specs.declared.Field.{Field}
+
+-- The letters of a name.
+abbrev pub letters_of : Field → Option ℕ
+letters_of Field.Empty = None
+letters_of (Field.Name w) = Some w
+letters_of (Field.Number v) = None
+letters_of Field.Neither = None
 
 -- A range of two numbers.
-abbrev pub bounds_of : Option ℕ → Option ℕ → Bounds
-bounds_of none l = Bounds.Unknown
-bounds_of (some b) none = Bounds.Unknown
-bounds_of (some b) (some l) = Bounds.Range (range_of b l)
-
--- A mode that may be missing.
-abbrev pub ending_of : Option Mode → Ending
-ending_of none = Ending.Unknown
-ending_of (some m) = Ending.Mode m
+abbrev pub bounds_of : Option ℕ → Option ℕ → Option Range
+bounds_of None l = None
+bounds_of (Some b) None = None
+bounds_of (Some b) (Some l) = Some (range_of b l)

@@ -1,8 +1,6 @@
 -- Contracts of the reader: a line read byte by byte. Assumes nothing.
-use Rattle.std.specs.Prelude.{ℕ, ◌+◌, ◌*◌, ◌-◌, ◌≤◌, ◌<◌, Bool, true, false, cond, ◌&&◌, not, List, [], ◌∷◌, ◌≡◌, eqb, leb, ltb, length, get_or, take, drop}
-use Rattle.std.proofs.Math.Option.{Option, none, some}
+use Rattle.std.specs.Prelude.{ℕ, ◌+◌, ◌*◌, ◌-◌, ◌≤◌, ◌<◌, Bool, true, false, cond, ◌&&◌, not, List, [], ◌∷◌, ◌≡◌, eqb, leb, ltb, length, get_or, take, drop, Option, Some, None}
 use Rattle.lines.specs.declared.Field.{Field}
-use Rattle.lines.specs.declared.Grown.{Grown}
 use Rattle.lines.specs.declared.Line.{Line}
 use Rattle.lines.specs.declared.Read.{Read}
 use Rattle.lines.specs.declared.Reader.{Reader}
@@ -13,16 +11,16 @@ abbrev pub is_letter : ℕ → Bool
 is_letter b = leb 97 b && leb b 122
 
 -- A digit behind a number to a base, unless the number passes 2^64 - 1.
-abbrev pub with_digit : ℕ → ℕ → ℕ → Grown
-with_digit base v d = cond (ltb (v * base + d) word_limit) (Grown.More (v * base + d)) Grown.Over
+abbrev pub with_digit : ℕ → ℕ → ℕ → Option ℕ
+with_digit base v d = cond (ltb (v * base + d) word_limit) (Some (v * base + d)) None
 
-abbrev pub as_name : Grown → Field
-as_name (Grown.More v) = Field.Name v
-as_name Grown.Over = Field.Neither
+abbrev pub as_name : Option ℕ → Field
+as_name (Some v) = Field.Name v
+as_name None = Field.Neither
 
-abbrev pub as_number : Grown → Field
-as_number (Grown.More v) = Field.Number v
-as_number Grown.Over = Field.Neither
+abbrev pub as_number : Option ℕ → Field
+as_number (Some v) = Field.Number v
+as_number None = Field.Neither
 
 -- A letter behind a name, a digit behind a number.
 abbrev pub name_with : ℕ → ℕ → Field
@@ -75,10 +73,10 @@ abbrev pub name_in : Field → List ℕ → Bool
 name_in f t = is_packed f (pack_from 0 t)
 
 abbrev pub number_in : Field → Option ℕ
-number_in Field.Empty = none
-number_in (Field.Name w) = none
-number_in (Field.Number v) = some v
-number_in Field.Neither = none
+number_in Field.Empty = None
+number_in (Field.Name w) = None
+number_in (Field.Number v) = Some v
+number_in Field.Neither = None
 
 -- The fields of a line; of more than four, five that are neither name nor number.
 abbrev pub fields_in : Line → List Field
@@ -89,8 +87,8 @@ fields_in (Line.Three w x y) = w ∷ x ∷ y ∷ []
 fields_in (Line.Four w x y z) = w ∷ x ∷ y ∷ z ∷ []
 fields_in Line.More = Field.Neither ∷ Field.Neither ∷ Field.Neither ∷ Field.Neither ∷ Field.Neither ∷ []
 
--- What the line asks for, if it ends here.
-abbrev pub request_in : Reader → Request
+-- What the line asks for, if it ends here and has a form.
+abbrev pub request_in : Reader → Option Request
 request_in r = request_of name_in number_in (fields_in (with_field r.line r.field))
 
 abbrev pub no_field : Line → Bool

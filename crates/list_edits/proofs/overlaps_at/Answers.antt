@@ -5,8 +5,8 @@ use Rattle.list_edits.proofs.overlaps_at.Goals as goal
 pub returns-then-is_zero : goal.returns-then-is_zero
 returns-then-is_zero c = search at_none
 
-pub place-place-requires : goal.place-place-requires
-place-place-requires c = search put-placing
+pub place-requires : goal.place-requires
+place-requires c = search put-placing
 
 pub returns : goal.returns
 returns c = search at_place

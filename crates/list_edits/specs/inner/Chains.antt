@@ -1,9 +1,10 @@
 -- A range put into a sound list at a spot, and a part taken out of the range there: what the edits of a chain give. Assumes nothing.
-use Rattle.std.specs.Prelude.{ℕ, ◌%◌, ◌≤◌, ◌<◌, Bool, true, not, cond, List, ◌≡◌, length}
-use Rattle.units.specs.Rules.{range_check, good_range}
+use Rattle.std.specs.Prelude.{ℕ, ◌%◌, ◌≤◌, ◌<◌, Bool, true, not, cond, List, ◌≡◌, length, Result, Ok, Err}
+use Rattle.units.specs.Rules.{refusal_number, range_check, good_range}
 use Rattle.units.specs.Words.{addr}
 use Rattle.units.specs.declared.Range as units
 use Rattle.units.specs.declared.aims.Aim.{Aim}
+use Rattle.units.specs.declared.refusals.Refusal.{Refusal}
 use Rattle.units.specs.declared.rules.Arena.{Arena}
 use Rattle.model.specs.Marks.{Range, struct, total}
 use Rattle.model.specs.inner.Lists.{overlaps, holds, holder, insert_in, delete_from}
@@ -12,7 +13,6 @@ use Rattle.list_words.specs.declared.Spot.{Spot}
 use Rattle.list_words.specs.Words.{sound_walk}
 use Rattle.list_words.specs.Laying.{head_of, lay}
 use Rattle.list_words.specs.inner.Surveys.{Ready, walk_of, kept_of}
-use Rattle.list_edits.specs.declared.ChainEdited.{ChainEdited}
 use Rattle.list_edits.specs.declared.ChainJoined.{ChainJoined}
 
 -- The ranges that the walk from the head meets.
@@ -43,14 +43,19 @@ pub record Holding (a : Arena) (ws : List ℕ) (c : Chain) (s : Spot) (y : units
 abbrev pub chain_of : List Range → Chain
 chain_of rs = record { head = addr (head_of rs); ranges = length rs; bytes = record { 0 = total rs } }
 
--- Document 01's number of each case: 1 where some byte is already free, or is not free.
-abbrev pub edited_number : ChainEdited → ℕ
-edited_number ChainEdited.Refused = 1
-edited_number (ChainEdited.Done c r) = 0
+-- The chain of a new list, and the range of the code that r is.
+abbrev pub chain_joined : List Range → Range → ChainJoined
+chain_joined new r = record { chain = chain_of new; range = struct r }
 
--- What an edit gives, and the words: refused, or the chain of the new list and the range that holds the request.
-abbrev pub edited : Bool → List Range → Range → ChainEdited
-edited bad new r = cond bad ChainEdited.Refused (ChainEdited.Done (chain_of new) (struct r))
+-- Document 01's number of each case: that of the refusal, or 0.
+abbrev pub edited_number : Result ChainJoined Refusal → ℕ
+edited_number (Err r) = refusal_number r
+edited_number (Ok d) = 0
+
+-- What an edit gives, and the words: refused where some byte is already free, or is not free; or the chain of the new list and
+-- the range that holds the request.
+abbrev pub edited : Bool → List Range → Range → Result ChainJoined Refusal
+edited bad new r = cond bad (Err Refusal.Overlap) (Ok (chain_joined new r))
 
 abbrev pub edited_words : Bool → List Range → ℕ → List ℕ → List ℕ
 edited_words bad new base ws = cond bad ws (lay base new ws)
@@ -61,13 +66,13 @@ module _ (rs : List Range) (y : units.Range) where
   joined = insert_in y.base.0 y.limit.0 rs
 
   abbrev pub joined_of : ChainJoined
-  joined_of = record { chain = chain_of joined; range = struct (holder y.base.0 y.limit.0 joined) }
+  joined_of = chain_joined joined (holder y.base.0 y.limit.0 joined)
 
   abbrev pub joined_words : ℕ → List ℕ → List ℕ
   joined_words base ws = lay base joined ws
 
   -- Refused if it overlaps one.
-  unfoldable pub put_of : ChainEdited
+  unfoldable pub put_of : Result ChainJoined Refusal
   put_of = edited (overlaps y.base.0 y.limit.0 rs) joined (holder y.base.0 y.limit.0 joined)
 
   unfoldable pub put_words : ℕ → List ℕ → List ℕ
@@ -84,7 +89,7 @@ module _ (rs : List Range) (y : units.Range) where
   cut_words base ws = lay base remaining ws
 
   -- A range taken out: refused if none holds it; it was in the range that did.
-  unfoldable pub cut_of : ChainEdited
+  unfoldable pub cut_of : Result ChainJoined Refusal
   cut_of = edited (not (holds y.base.0 y.limit.0 rs)) remaining (holder y.base.0 y.limit.0 rs)
 
   unfoldable pub cut_out_words : ℕ → List ℕ → List ℕ

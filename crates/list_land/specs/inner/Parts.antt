@@ -1,5 +1,5 @@
 -- Contracts of the inner functions that every call uses. Assumes nothing.
-use Rattle.std.specs.Prelude.{ℕ, cond, List}
+use Rattle.std.specs.Prelude.{ℕ, cond, List, Result, Ok, Err}
 use Rattle.units.specs.Rules.{find_size}
 use Rattle.units.specs.inner.Aims.{aim_of}
 use Rattle.units.specs.Words.{range_of}
@@ -8,6 +8,7 @@ use Rattle.units.specs.declared.Size.{Size}
 use Rattle.units.specs.declared.Which.{Which}
 use Rattle.units.specs.declared.rules.Arena.{Arena}
 use Rattle.units.specs.declared.aims.Aim.{Aim}
+use Rattle.units.specs.declared.refusals.Refusal.{Refusal}
 use Rattle.model.specs.inner.Looks as looks
 use Rattle.list_words.specs.declared.Chain.{Chain}
 use Rattle.list_words.specs.declared.Spot.{Spot}
@@ -15,7 +16,6 @@ use Rattle.list_words.specs.inner.Surveys.{kept_of}
 use Rattle.list_land.specs.declared.Changed.{Changed}
 use Rattle.list_land.specs.declared.Found.{Found}
 use Rattle.list_land.specs.declared.ListLand.{ListLand}
-use Rattle.list_land.specs.declared.Look.{Look}
 use Rattle.list_land.specs.Layout.{align, set_up, walk_of, sound}
 
 abbrev pub arena_in : ListLand → Arena
@@ -24,20 +24,14 @@ arena_in h = record { base = h.base; limit = h.limit; align = h.align }
 abbrev pub chain_in : ListLand → Chain
 chain_in h = record { head = h.head; ranges = h.ranges; bytes = h.bytes }
 
--- Document 01's number of each case: 5, 6, or 0.
-abbrev pub look_number : Look → ℕ
-look_number Look.BadSetUp = 5
-look_number Look.Damaged = 6
-look_number (Look.Sound s) = 0
-
 -- What a call looks for.
 abbrev pub aim_in : ListLand → Aim → Aim
 aim_in h aim = aim_of (arena_in h) aim
 
 -- 5, then 6, then what the aim keeps of the list.
-unfoldable pub look_of : ListLand → List ℕ → Aim → Look
+unfoldable pub look_of : ListLand → List ℕ → Aim → Result Spot Refusal
 look_of h ws aim =
-    cond (set_up h ws) (cond (sound h ws) (Look.Sound (kept_of (aim_in h aim) (walk_of h ws).met)) Look.Damaged) Look.BadSetUp
+    cond (set_up h ws) (cond (sound h ws) (Ok (kept_of (aim_in h aim) (walk_of h ws).met)) (Err Refusal.Damaged)) (Err Refusal.SetUp)
 
 -- A spot that an aim keeps of a sound list.
 abbrev pub Looked : ListLand → List ℕ → Aim → Spot → Type 0

@@ -1,5 +1,5 @@
 -- Contracts of the inner functions of a find of a pair. Assumes nothing.
-use Rattle.std.specs.Prelude.{ℕ, ◌≤◌, cond, List, eqb, Option, Some, None}
+use Rattle.std.specs.Prelude.{ℕ, ◌≤◌, true, cond, List, ◌≡◌, eqb, Option, Some, None}
 use Rattle.units.specs.Rules.{find_size}
 use Rattle.units.specs.declared.Range.{Range}
 use Rattle.units.specs.declared.Size.{Size}
@@ -22,6 +22,7 @@ use Rattle.block_land.specs.Layout as block
 use Rattle.block_land.specs.inner.Parts as block-parts
 use Rattle.block_land.specs.declared.BlockLand.{BlockLand}
 use Rattle.pair_model.specs.Pairs.{list_first}
+use Rattle.pair.specs.inner.Parts.{Checked}
 use Rattle.pair.specs.declared.Found.{Found}
 use Rattle.pair.specs.declared.Pair.{Pair}
 use Rattle.pair.specs.declared.find.Side.{Side}
@@ -29,6 +30,10 @@ use Rattle.pair.specs.declared.find.Side.{Side}
 -- The size that both lands look for.
 abbrev pub find_aim : Pair → Which → Size → Aim
 find_aim p w n = Aim.Find w (record { 0 = find_size p.block.align.0 n.0 })
+
+-- A pair that was checked, and what a find of a good size keeps of it.
+abbrev pub Sought : Pair → List ℕ → List ℕ → Which → Size → Spot → Entry → Type 0
+Sought p ws vs w n s e = Checked p ws vs (find_aim p w n) s e × (good_size_in (block.arena_of p.block vs) w n.0 ≡ true)
 
 -- Neither of two ranges has its limit below its base.
 pub record Ordered (r q : Range) : Type 0 where

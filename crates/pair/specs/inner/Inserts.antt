@@ -1,5 +1,6 @@
 -- What the inner functions of insert give. Assumes nothing.
 use Rattle.std.specs.Prelude.{ℕ, ◌≤◌, ◌<◌, Bool, true, false, cond, List, ◌≡◌, leb, length}
+use Rattle.std.specs.Prelude.{Ok}
 use Rattle.units.specs.declared.Range as units
 use Rattle.model.specs.Marks.{Range, struct, total}
 use Rattle.model.specs.Calls.{good_range_in}
@@ -16,7 +17,6 @@ use Rattle.block_words.specs.Words.{capacity, fill}
 use Rattle.block_words.specs.declared.Entry.{Entry}
 use Rattle.block_land.specs.Layout as block
 use Rattle.flush.specs.Flush.{check_of, moves}
-use Rattle.flush.specs.declared.FlushCheck.{FlushCheck}
 use Rattle.pair_model.specs.Pairs.{both, any_free}
 use Rattle.pair_words.specs.inner.Lefts.{Left}
 use Rattle.pair.specs.inner.Editing.{list_more, chained}
@@ -112,5 +112,5 @@ module _ (p : Pair) (ws vs : List ℕ) (y : units.Range) (s : Spot) where
 
 -- The checks of a flush are good, and an entry of the table is the first range that reaches the base of a request.
 pub record Preparable (p : Pair) (ws vs : List ℕ) (y : units.Range) (e : Entry) : Type 0 where
-  pub good : check_of p.list ws p.block vs ≡ FlushCheck.Good
+  pub good : check_of p.list ws p.block vs ≡ Ok tt
   pub place : places.FirstReach vs p.block.ranges y.base.0 e.number

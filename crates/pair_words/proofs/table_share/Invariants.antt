@@ -1,10 +1,6 @@
 -- `table_share` meets its contract: at each turn the sum and what is still to come make up the whole. Assumes nothing.
-use Prim.Native.Nat.{◌-◌}
 use Rattle.pair_words.proofs.Sharing.{Adding}
 use Rattle.pair_words.proofs.table_share.Given as goal
 
 abbrev pub invariant-loop-i : goal.invariant-loop-i
-invariant-loop-i l = Adding l.nodes l.n l.range l.i l.sum
-
-abbrev pub decreases-loop-i : goal.decreases-loop-i
-decreases-loop-i l = l.n - l.i
+invariant-loop-i l = Adding l.nodes l.count l.range l.i l.sum

@@ -40,7 +40,7 @@ pub record Abreast (a : Arena) (ws : List ℕ) (head : ℕ) (vs : List ℕ) (n :
 
 -- What a walk sought beside a table: a fault, or lands that overlap; or the spot that f says of the whole list, and what stands behind it.
 abbrev pub SeeksBeside : Arena → List ℕ → ℕ → List ℕ → ℕ → (List Range → Spot) → Result (Spot × Cursor × ℕ) Refusal → Type 0
-SeeksBeside a ws head vs n f (Err r) = (walk_of a ws head).end ≡ clean → meet (walk_of a ws head).met (pairs vs n) ≡ true
+SeeksBeside a ws head vs n f (Err r) = (r ≡ Refusal.Damaged) × ((walk_of a ws head).end ≡ clean → meet (walk_of a ws head).met (pairs vs n) ≡ true)
 SeeksBeside a ws head vs n f (Ok (s, c, i)) = Come a ws head f s c × Abreast a ws head vs n c i
 
 -- The list is sound, and no byte of it is in the table.

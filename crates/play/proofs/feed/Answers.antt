@@ -1,31 +1,25 @@
-use Rattle.std.proofs.Common.{rules}
-use Rattle.play.proofs.Parts.{used-of-part, uses-some}
-use Rattle.play.proofs.Printing.{prints-none, prints-before, prints-then, fed-prints}
+use Rattle.std.proofs.Common.{rules, ◌≤◌, length}
+use Rattle.play.proofs.Parts.{used-in, left-less}
+use Rattle.play.proofs.Printing.{prints-before, prints-then, fed-prints}
 use Rattle.play.proofs.feed.Goals as goal
 
-pub loop-from-init : goal.loop-from-init
-loop-from-init g c = (search rules, search rules, search rules, c.requires.still, prints-none _ _ _ _)
+pub slice_bounds-left-count : goal.slice_bounds-left-count
+slice_bounds-left-count g c = used-in _ c.loop-left.script _ _ _ c.feed-fed.ensures.value
 
-pub overflow_add-from : goal.overflow_add-from
-overflow_add-from g c =
-    let inside = used-of-part c.args.bytes.now c.loop-from.from c.loop-from.script _ _ _ c.feed-fed.ensures.value c.loop-from.invariant.2 in
+pub slice_bounds-left-start : goal.slice_bounds-left-start
+slice_bounds-left-start g c =
+    let inside : c.feed-fed.result.used ≤ length c.loop-left.left.now = used-in _ c.loop-left.script _ _ _ c.feed-fed.ensures.value in
     search rules
 
-pub loop-from-smaller : goal.loop-from-smaller
-loop-from-smaller g c =
-    let at = c.loop-from in
-    let bytes = c.args.bytes.now in
-    let fed = c.feed-fed.ensures.value in
-    let inside = used-of-part bytes at.from at.script _ _ _ fed at.invariant.2 in
-    let used = uses-some bytes at.from at.script _ _ _ fed (search rules) (search rules) at.invariant.3 in
-    search rules
+pub loop-left-smaller : goal.loop-left-smaller
+loop-left-smaller g c =
+    let at = c.loop-left in
+    left-less _ at.script _ _ _ c.feed-fed.ensures.value (search rules) (search rules) at.invariant.2
 
-pub loop-from-preserved : goal.loop-from-preserved
-loop-from-preserved g c =
-    let at = c.loop-from in
-    let bytes = c.args.bytes.now in
+pub loop-left-preserved : goal.loop-left-preserved
+loop-left-preserved g c =
+    let at = c.loop-left in
     let fed = c.feed-fed.ensures in
-    let inside = used-of-part bytes at.from at.script _ _ _ fed.value at.invariant.2 in
-    let put = fed-prints _ _ at.script _ bytes at.from _ _ _ _ fed.value fed.words_after fed.out_after c.in_default.ensures in
-    let told = prints-before _ _ _ _ _ _ _ c.in-More.ensures.prints in
-    (search rules, search rules, inside, c.in-More.ensures.stills, prints-then _ _ _ _ _ _ _ _ _ _ _ _ at.invariant.4 (prints-then _ _ _ _ _ _ _ _ _ _ _ _ put told))
+    let put = fed-prints _ _ at.script _ _ _ _ _ _ fed.value fed.words_after fed.out_after c.in_ok-put_out.ensures in
+    let told = prints-before _ _ _ _ _ _ _ c.in_ok-script.ensures.prints in
+    (search rules, search rules, c.in_ok-script.ensures.still, prints-then _ _ _ _ _ _ _ _ _ _ _ _ at.invariant.3 (prints-then _ _ _ _ _ _ _ _ _ _ _ _ put told))

@@ -1,10 +1,10 @@
--- Each turn writes a byte at least, and those before the position are written.
-use Rattle.std.proofs.Common.{length, take, ◌-◌, ◌≤◌}
-use Rattle.std.specs.Io.KnownBytes.{Appends}
+-- The bytes in front of those that are left are written.
+use Rattle.std.proofs.Common.{length}
+use Rattle.streams.proofs.Writing.{Written}
 use Rattle.streams.proofs.write.Given as goal
 
-abbrev pub invariant-loop-from : goal.invariant-loop-from
-invariant-loop-from g l = (l.from ≤ length l.bytes) × Appends (g.W.Write.contents l.initial.to) (g.W.Write.contents l.to) (take l.from l.bytes)
+abbrev pub invariant-loop-left : goal.invariant-loop-left
+invariant-loop-left g l = Written (g.W.Write.contents l.initial.to) (g.W.Write.contents l.to) l.bytes l.left
 
-abbrev pub decreases-loop-from : goal.decreases-loop-from
-decreases-loop-from g l = length l.bytes - l.from
+abbrev pub decreases-loop-left : goal.decreases-loop-left
+decreases-loop-left g l = length l.left

@@ -2,7 +2,7 @@
 use mathlib.Core.Path.{refl}
 use Rattle.units.proofs.Ways.{said-true, said-false}
 use Rattle.transfers.proofs.Transferring.{start, done}
-use Rattle.transfers.proofs.OneRange.{standing, put-ready, stops-1, stops-3, near, next}
+use Rattle.transfers.proofs.OneRange.{standing, put-ready, stopped-by, near, next}
 use mathlib.Core.Path.{ap}
 use mathlib.Core.Bool.{not}
 use Rattle.transfers.proofs.transfer.Goals as goal
@@ -24,15 +24,10 @@ pub put_in-requires-clause-base_lt_limit : goal.put_in-requires-clause-base_lt_l
 put_in-requires-clause-base_lt_limit c = (let z = said-false _ _ c.is_zero.ensures (ap not c.loop-arena-test.true) in
     put-ready _ _ _ _ _ _ _ c.loop-arena.invariant z _ c.descriptor_at-here.ensures _ c.new-in-loop-arena.ensures).1
 
-pub returns-in-Refused : goal.returns-in-Refused
-returns-in-Refused c =
+pub returns-in-Err : goal.returns-in-Err
+returns-in-Err c =
     let z = said-false _ _ c.is_zero.ensures (ap not c.loop-arena-test.true) in
-    stops-1 _ _ _ _ _ _ _ c.loop-arena.invariant z _ c.descriptor_at-here.ensures _ c.new-in-loop-arena.ensures _ _ c.put_in.ensures c.in-Refused.is _ c.stopped.ensures
-
-pub returns-in-Full : goal.returns-in-Full
-returns-in-Full c =
-    let z = said-false _ _ c.is_zero.ensures (ap not c.loop-arena-test.true) in
-    stops-3 _ _ _ _ _ _ _ c.loop-arena.invariant z _ c.descriptor_at-here.ensures _ c.new-in-loop-arena.ensures _ _ c.put_in.ensures c.in-Full.is _ c.stopped-in-Full.ensures
+    stopped-by _ _ _ _ _ _ _ c.loop-arena.invariant z _ c.descriptor_at-here.ensures _ c.new-in-loop-arena.ensures _ _ c.put_in.ensures _ c.in-Err.is _ c.stopped.ensures
 
 pub on-cur-requires : goal.on-cur-requires
 on-cur-requires c =
@@ -42,7 +37,7 @@ on-cur-requires c =
 pub loop-arena-preserved : goal.loop-arena-preserved
 loop-arena-preserved c =
     let z = said-false _ _ c.is_zero.ensures (ap not c.loop-arena-test.true) in
-    next _ _ _ _ _ _ _ c.loop-arena.invariant z _ c.descriptor_at-here.ensures _ c.new-in-loop-arena.ensures _ _ c.put_in.ensures _ _ c.in-Done.is _ c.on-cur.ensures
+    next _ _ _ _ _ _ _ c.loop-arena.invariant z _ c.descriptor_at-here.ensures _ c.new-in-loop-arena.ensures _ _ c.put_in.ensures _ c.in-Ok.is _ c.on-cur.ensures
 
 pub returns : goal.returns
 returns c =

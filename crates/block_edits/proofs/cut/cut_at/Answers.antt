@@ -1,5 +1,5 @@
 -- `cut::cut_at` meets its contract: what is left below the part, above it, or nothing. Assumes nothing.
-use Rattle.block_words.proofs.Orders.{told-lt, told-ge}
+use Rattle.units.proofs.Orders.{told-lt, told-ge}
 use Rattle.block_edits.proofs.CutEnds.{left_below, left-above, left-nothing}
 use Rattle.block_edits.proofs.cut.cut_at.Goals as goal
 

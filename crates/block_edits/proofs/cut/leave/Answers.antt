@@ -1,5 +1,5 @@
 -- `cut::leave` meets its contract. Assumes nothing.
-use Rattle.block_words.proofs.Orders.{orders}
+use Rattle.units.proofs.Orders.{orders}
 use Rattle.block_edits.proofs.Replacing.{leave-both, leave_low, leave-high}
 use Rattle.block_edits.proofs.cut.leave.Goals as goal
 

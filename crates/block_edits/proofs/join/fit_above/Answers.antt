@@ -1,5 +1,5 @@
 -- `join::fit_above` meets its contract. Assumes nothing.
-use Rattle.block_words.proofs.Orders.{orders}
+use Rattle.units.proofs.Orders.{orders}
 use Rattle.block_edits.proofs.Fitting.{above-touching, above-over, above_apart}
 use Rattle.block_edits.proofs.join.fit_above.Goals as goal
 

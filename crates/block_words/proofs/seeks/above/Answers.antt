@@ -1,6 +1,6 @@
 -- `above` meets its contract: the range that reaches the address, or the next. Assumes nothing.
 use Rattle.block_words.proofs.Seeking.{places}
-use Rattle.block_words.proofs.Orders.{orders}
+use Rattle.units.proofs.Orders.{orders}
 use Rattle.block_words.proofs.seeks.above.Goals as goal
 
 pub returns-then-lt : goal.returns-then-lt

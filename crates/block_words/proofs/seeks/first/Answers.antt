@@ -1,6 +1,6 @@
 -- `first` meets its contract: no range before is long enough. Assumes nothing.
 use Rattle.block_words.proofs.Finding.{ups}
-use Rattle.block_words.proofs.Orders.{orders}
+use Rattle.units.proofs.Orders.{orders}
 use Rattle.block_words.proofs.seeks.first.Goals as goal
 
 pub size-requires : goal.size-requires

@@ -1,5 +1,5 @@
 -- `largest` meets its contract: at each turn what is kept of the rest is kept of all. Assumes nothing.
-use Rattle.block_words.proofs.Orders.{orders}
+use Rattle.units.proofs.Orders.{orders}
 use Rattle.block_words.proofs.Weighing.{weighings}
 use Rattle.block_words.proofs.seeks.largest.Goals as goal
 use Rattle.block_words.proofs.seeks.largest.Goals.{then-lt, else-lt}

@@ -1,6 +1,6 @@
 -- `last` meets its contract: no range behind is long enough. Assumes nothing.
 use Rattle.block_words.proofs.Finding.{downs}
-use Rattle.block_words.proofs.Orders.{orders}
+use Rattle.units.proofs.Orders.{orders}
 use Rattle.block_words.proofs.seeks.last.Goals as goal
 
 pub size-requires : goal.size-requires

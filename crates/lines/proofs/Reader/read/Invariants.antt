@@ -1,11 +1,6 @@
 -- `Reader::read` meets its contract: at each turn the bytes up to here are read, and none is a newline. Assumes nothing.
-use Prim.Native.Nat.{◌-◌}
-use lib.ListN.{length}
 use Rattle.lines.proofs.Running.{Along}
 use Rattle.lines.proofs.Reader.read.Given as goal
 
 abbrev pub invariant-loop-at : goal.invariant-loop-at
 invariant-loop-at l = Along l.initial.reader l.bytes l.from l.reader l.at
-
-abbrev pub decreases-loop-at : goal.decreases-loop-at
-decreases-loop-at l = length l.bytes - l.at

@@ -18,18 +18,22 @@ pub returns-in_default : goal.returns-in_default
 returns-in_default c =
     let y = c.args.range in
     edit-4 list_land _ _ (reach_limit y) _ c.requires _ (delete-edits _ _ y.base.0 y.limit.0)
-    (range-bad (arena_of c.args.self) _ c.good_arena-arena.ensures c.args.range _ c.check_range.ensures c.in_default.not-Good)
+    (range-bad (arena_of c.args.self) _ c.good_arena-arena.ensures c.args.range _ c.check_range.ensures (c.in_default.not-Ok tt))
     _ c.refused.ensures
 
 pub cut_out-requires-clause-held : goal.cut_out-requires-clause-held
-cut_out-requires-clause-held c = (delete-asks _ _ c.args.range _ c.requires (range-good (arena_of c.args.self) _ c.good_arena-arena.ensures c.args.range _ c.check_range.ensures c.in-Good.is) _ c.good_arena-arena.ensures _ c.chain.ensures).0
+cut_out-requires-clause-held c =
+    let g = range-good (arena_of c.args.self) _ c.good_arena-arena.ensures c.args.range _ c.check_range.ensures c.in-Ok.is in
+    (delete-asks _ _ c.args.range _ c.requires g _ c.good_arena-arena.ensures _ c.chain.ensures).0
 
-pub returns-in_default-cut_out : goal.returns-in_default-cut_out
-returns-in_default-cut_out c =
-    delete-1 _ _ c.args.range _ c.requires (range-good (arena_of c.args.self) _ c.good_arena-arena.ensures c.args.range _ c.check_range.ensures c.in-Good.is) _ c.good_arena-arena.ensures _ c.chain.ensures _ _
-    c.cut_out.ensures c.in_default-cut_out.is _ c.refused-in_default-cut_out.ensures
+pub returns-in-Err : goal.returns-in-Err
+returns-in-Err c =
+    let g = range-good (arena_of c.args.self) _ c.good_arena-arena.ensures c.args.range _ c.check_range.ensures c.in-Ok.is in
+    delete-1 _ _ c.args.range _ c.requires g _ c.good_arena-arena.ensures _ c.chain.ensures _ _
+    c.cut_out.ensures _ c.in-Err.is _ c.refused-in-Err.ensures
 
-pub returns : goal.returns
-returns c =
-    delete-0 _ _ c.args.range _ c.requires (range-good (arena_of c.args.self) _ c.good_arena-arena.ensures c.args.range _ c.check_range.ensures c.in-Good.is) _ c.good_arena-arena.ensures _ c.chain.ensures _ _
-    c.cut_out.ensures _ _ c.in-Done.is _ c.close.ensures
+pub returns-in-Ok-cut_out : goal.returns-in-Ok-cut_out
+returns-in-Ok-cut_out c =
+    let g = range-good (arena_of c.args.self) _ c.good_arena-arena.ensures c.args.range _ c.check_range.ensures c.in-Ok.is in
+    delete-0 _ _ c.args.range _ c.requires g _ c.good_arena-arena.ensures _ c.chain.ensures _ _
+    c.cut_out.ensures _ c.in-Ok-cut_out.is _ c.close.ensures

@@ -18,18 +18,22 @@ pub returns-in_default : goal.returns-in_default
 returns-in_default c =
     let y = c.args.range in
     edit-4 list_land _ _ (reach_base y) _ c.requires _ (insert-edits _ _ y.base.0 y.limit.0)
-    (range-bad (arena_of c.args.self) _ c.good_arena-arena.ensures c.args.range _ c.check_range.ensures c.in_default.not-Good)
+    (range-bad (arena_of c.args.self) _ c.good_arena-arena.ensures c.args.range _ c.check_range.ensures (c.in_default.not-Ok tt))
     _ c.refused.ensures
 
 pub put_at-requires-clause-held : goal.put_at-requires-clause-held
-put_at-requires-clause-held c = (insert-asks _ _ c.args.range _ c.requires (range-good (arena_of c.args.self) _ c.good_arena-arena.ensures c.args.range _ c.check_range.ensures c.in-Good.is) _ c.good_arena-arena.ensures _ c.chain.ensures).0
+put_at-requires-clause-held c =
+    let g = range-good (arena_of c.args.self) _ c.good_arena-arena.ensures c.args.range _ c.check_range.ensures c.in-Ok.is in
+    (insert-asks _ _ c.args.range _ c.requires g _ c.good_arena-arena.ensures _ c.chain.ensures).0
 
-pub returns-in_default-put_at : goal.returns-in_default-put_at
-returns-in_default-put_at c =
-    insert-1 _ _ c.args.range _ c.requires (range-good (arena_of c.args.self) _ c.good_arena-arena.ensures c.args.range _ c.check_range.ensures c.in-Good.is) _ c.good_arena-arena.ensures _ c.chain.ensures _ _
-    c.put_at.ensures c.in_default-put_at.is _ c.refused-in_default-put_at.ensures
+pub returns-in-Err : goal.returns-in-Err
+returns-in-Err c =
+    let g = range-good (arena_of c.args.self) _ c.good_arena-arena.ensures c.args.range _ c.check_range.ensures c.in-Ok.is in
+    insert-1 _ _ c.args.range _ c.requires g _ c.good_arena-arena.ensures _ c.chain.ensures _ _
+    c.put_at.ensures _ c.in-Err.is _ c.refused-in-Err.ensures
 
-pub returns : goal.returns
-returns c =
-    insert-0 _ _ c.args.range _ c.requires (range-good (arena_of c.args.self) _ c.good_arena-arena.ensures c.args.range _ c.check_range.ensures c.in-Good.is) _ c.good_arena-arena.ensures _ c.chain.ensures _ _
-    c.put_at.ensures _ _ c.in-Done.is _ c.close.ensures
+pub returns-in-Ok-put_at : goal.returns-in-Ok-put_at
+returns-in-Ok-put_at c =
+    let g = range-good (arena_of c.args.self) _ c.good_arena-arena.ensures c.args.range _ c.check_range.ensures c.in-Ok.is in
+    insert-0 _ _ c.args.range _ c.requires g _ c.good_arena-arena.ensures _ c.chain.ensures _ _
+    c.put_at.ensures _ c.in-Ok-put_at.is _ c.close.ensures

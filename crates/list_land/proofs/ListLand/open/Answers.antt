@@ -2,8 +2,8 @@
 use Rattle.list_land.proofs.Ways.{open-ways}
 use Rattle.list_land.proofs.ListLand.open.Goals as goal
 
-pub returns-in_default : goal.returns-in_default
-returns-in_default c = search open-ways
+pub returns-in-Err : goal.returns-in-Err
+returns-in-Err c = search open-ways
 
 pub returns : goal.returns
 returns c = search open-ways

@@ -5,7 +5,7 @@ use Rattle.list_land.proofs.Ways.{lent-good, lent-bad}
 use Rattle.list_land.proofs.ListLand.set_up.Goals as goal
 
 pub returns-in_default : goal.returns-in_default
-returns-in_default c = search (set-up-bad list_land)
+returns-in_default c = search (set-up-bad list_land, c.in_default.not-Ok tt)
 
 pub word_from-requires : goal.word_from-requires
 word_from-requires c = search (set-up-order list_land)

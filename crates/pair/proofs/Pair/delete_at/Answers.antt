@@ -14,4 +14,4 @@ check_range-requires c =
 
 pub returns-in_default : goal.returns-in_default
 returns-in_default c =
-    asked-4 _ _ _ c.args.range _ _ c.requires _ c.arena.ensures _ c.divided.ensures _ c.check_range.ensures changed _ _ (is-delete _ _ _ c.args.range) (λ g. rw g) c.in_default.not-Good _ c.refused.ensures
+    asked-4 _ _ _ c.args.range _ _ c.requires _ c.arena.ensures _ c.divided.ensures _ c.check_range.ensures changed _ _ (is-delete _ _ _ c.args.range) (λ g. rw g) (c.in_default.not-Ok tt) _ c.refused.ensures

@@ -14,11 +14,11 @@ cut_out-requires-clause-first_reach c = cut-spot _ _ _ c.args.range _ _ c.requir
 
 pub refuse_delete-requires : goal.refuse_delete-requires
 refuse_delete-requires c =
-    none-holds _ _ _ c.args.range _ _ c.requires _ _ c.cut_out.ensures c.in-Refused.is
+    none-holds _ _ _ c.args.range _ _ c.requires _ _ c.cut_out.ensures _ c.in-Err.is c.in_default.not-Full
 
 pub hand_over-requires : goal.hand_over-requires
 hand_over-requires c =
-    spills _ _ _ c.args.range _ _ c.requires _ _ c.cut_out.ensures c.in-Full.is
+    spills _ _ _ c.args.range _ _ c.requires _ _ c.cut_out.ensures _ c.in-Err.is c.in-Full.is
 
 pub size-requires : goal.size-requires
 size-requires c =
@@ -26,16 +26,16 @@ size-requires c =
 
 pub minus-bytes-requires : goal.minus-bytes-requires
 minus-bytes-requires c =
-    cut-room _ _ _ c.args.range _ _ c.requires _ _ c.cut_out.ensures _ _ c.in-Done.is _ c.size.ensures
+    cut-room _ _ _ c.args.range _ _ c.requires _ _ c.cut_out.ensures _ c.in-Ok.is _ c.size.ensures
 
-pub returns-in-Refused : goal.returns-in-Refused
-returns-in-Refused c =
-    after_none _ _ _ c.args.range _ _ c.requires _ _ c.cut_out.ensures c.in-Refused.is _ _ _ c.refuse_delete.ensures
+pub returns-in_default : goal.returns-in_default
+returns-in_default c =
+    after_none _ _ _ c.args.range _ _ c.requires _ _ c.cut_out.ensures _ c.in-Err.is c.in_default.not-Full _ _ _ c.refuse_delete.ensures
 
 pub returns-in-Full : goal.returns-in-Full
 returns-in-Full c =
-    after-spill _ _ _ c.args.range _ _ c.requires _ _ c.cut_out.ensures c.in-Full.is _ _ _ c.hand_over.ensures
+    after-spill _ _ _ c.args.range _ _ c.requires _ _ c.cut_out.ensures _ c.in-Err.is c.in-Full.is _ _ _ c.hand_over.ensures
 
-pub returns-in-Done : goal.returns-in-Done
-returns-in-Done c =
-    cut-0 _ _ _ c.args.range _ _ c.requires _ _ c.cut_out.ensures _ _ c.in-Done.is _ c.size.ensures _ c.minus-bytes.ensures _ c.close-block.ensures
+pub returns-in-Ok : goal.returns-in-Ok
+returns-in-Ok c =
+    cut-0 _ _ _ c.args.range _ _ c.requires _ _ c.cut_out.ensures _ c.in-Ok.is _ c.size.ensures _ c.minus-bytes.ensures _ c.close-block.ensures

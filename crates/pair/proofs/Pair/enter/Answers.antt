@@ -8,8 +8,8 @@ join_at-requires-clause-sorted c = (enter-sorted (closed_by c.args.self c.args.r
 
 pub plus-bytes-requires : goal.plus-bytes-requires
 plus-bytes-requires c =
-    enter-room (closed_by c.args.self c.args.rest) _ _ c.args.range _ c.requires.fact _ _ c.join_at.ensures _ _ c.in-Done.is _ c.size.ensures
+    enter-room (closed_by c.args.self c.args.rest) _ _ c.args.range _ c.requires.fact _ _ c.join_at.ensures _ c.in-Ok.is _ c.size.ensures
 
-pub returns-in-Done : goal.returns-in-Done
-returns-in-Done c =
-    enter-blocked (closed_by c.args.self c.args.rest) _ _ c.args.range _ c.requires.fact _ _ c.join_at.ensures _ _ c.in-Done.is _ c.size.ensures _ c.plus-bytes.ensures
+pub returns-in-Ok : goal.returns-in-Ok
+returns-in-Ok c =
+    enter-blocked (closed_by c.args.self c.args.rest) _ _ c.args.range _ c.requires.fact _ _ c.join_at.ensures _ c.in-Ok.is _ c.size.ensures _ c.plus-bytes.ensures

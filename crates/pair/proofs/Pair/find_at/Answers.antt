@@ -1,6 +1,6 @@
--- `Pair::find_at` meets its contract: 4, 2, the find in the list, the find in the block land. Assumes nothing.
-use Rattle.pair.proofs.FindAnswers.{find-align, find-positive, find-4, find-ready, find-ordered, find-2, list-chosen, find-list, block-chosen, find-block}
+-- `Pair::find_at` meets its contract: 4, and the ranges chosen. Assumes nothing.
 use mathlib.Core.Path.{◌∙◌}
+use Rattle.pair.proofs.FindAnswers.{find-align, find-positive, find-4, find-ready}
 use Rattle.pair.proofs.Pair.find_at.Goals as goal
 
 pub by_bit-requires : goal.by_bit-requires
@@ -13,35 +13,9 @@ check_find-requires c =
 
 pub returns-in_default : goal.returns-in_default
 returns-in_default c =
-    find-4 c.args.self _ _ c.args.which c.args.size _ _ c.requires _ (c.by_bit.ensures ∙ c.arena.ensures) _ c.check_find.ensures c.in_default.not-Good
+    find-4 c.args.self _ _ c.args.which c.args.size _ _ c.requires _ (c.by_bit.ensures ∙ c.arena.ensures) _ c.check_find.ensures (c.in_default.not-Ok tt)
     c.args.mode _ c.none_found.ensures
 
-pub choose_side-requires : goal.choose_side-requires
-choose_side-requires c =
-    let a = c.args in
-    find-ordered a.self _ _ a.which a.size a.mode _ _ (find-ready c.args.self _ _ c.args.which c.args.size _ _ c.requires _ (c.by_bit.ensures ∙ c.arena.ensures) _ c.check_find.ensures c.in-Good.is).0
-
-pub find_in_list-requires : goal.find_in_list-requires
-find_in_list-requires c =
-    let a = c.args in
-    list-chosen a.self _ _ a.which a.size a.mode _ _ (find-ready c.args.self _ _ c.args.which c.args.size _ _ c.requires _ (c.by_bit.ensures ∙ c.arena.ensures) _ c.check_find.ensures c.in-Good.is).0 (find-ready c.args.self _ _ c.args.which c.args.size _ _ c.requires _ (c.by_bit.ensures ∙ c.arena.ensures) _ c.check_find.ensures c.in-Good.is).1 _ c.choose_side.ensures c.in-List.is
-
-pub find_in_block-requires : goal.find_in_block-requires
-find_in_block-requires c =
-    let a = c.args in
-    block-chosen a.self _ _ a.which a.size a.mode _ _ (find-ready c.args.self _ _ c.args.which c.args.size _ _ c.requires _ (c.by_bit.ensures ∙ c.arena.ensures) _ c.check_find.ensures c.in-Good.is).0 (find-ready c.args.self _ _ c.args.which c.args.size _ _ c.requires _ (c.by_bit.ensures ∙ c.arena.ensures) _ c.check_find.ensures c.in-Good.is).1 _ c.choose_side.ensures c.in-Block.is
-
-pub returns-in-Neither : goal.returns-in-Neither
-returns-in-Neither c =
-    let a = c.args in
-    find-2 a.self _ _ a.which a.size a.mode _ _ (find-ready c.args.self _ _ c.args.which c.args.size _ _ c.requires _ (c.by_bit.ensures ∙ c.arena.ensures) _ c.check_find.ensures c.in-Good.is).0 (find-ready c.args.self _ _ c.args.which c.args.size _ _ c.requires _ (c.by_bit.ensures ∙ c.arena.ensures) _ c.check_find.ensures c.in-Good.is).1 _ c.choose_side.ensures c.in-Neither.is _ c.none_found-in-Neither.ensures
-
-pub returns-in-List : goal.returns-in-List
-returns-in-List c =
-    let a = c.args in
-    find-list a.self _ _ a.which a.size a.mode _ _ (find-ready c.args.self _ _ c.args.which c.args.size _ _ c.requires _ (c.by_bit.ensures ∙ c.arena.ensures) _ c.check_find.ensures c.in-Good.is).0 (find-ready c.args.self _ _ c.args.which c.args.size _ _ c.requires _ (c.by_bit.ensures ∙ c.arena.ensures) _ c.check_find.ensures c.in-Good.is).1 _ c.choose_side.ensures c.in-List.is _ _ c.find_in_list.ensures
-
-pub returns-in-Block : goal.returns-in-Block
-returns-in-Block c =
-    let a = c.args in
-    find-block a.self _ _ a.which a.size a.mode _ _ (find-ready c.args.self _ _ c.args.which c.args.size _ _ c.requires _ (c.by_bit.ensures ∙ c.arena.ensures) _ c.check_find.ensures c.in-Good.is).0 (find-ready c.args.self _ _ c.args.which c.args.size _ _ c.requires _ (c.by_bit.ensures ∙ c.arena.ensures) _ c.check_find.ensures c.in-Good.is).1 _ c.choose_side.ensures c.in-Block.is _ _ c.find_in_block.ensures
+pub find_sized-requires : goal.find_sized-requires
+find_sized-requires c =
+    find-ready c.args.self _ _ c.args.which c.args.size _ _ c.requires _ (c.by_bit.ensures ∙ c.arena.ensures) _ c.check_find.ensures c.in-Ok.is

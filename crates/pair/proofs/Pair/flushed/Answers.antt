@@ -23,4 +23,4 @@ plus-bytes-requires c =
 pub returns : goal.returns
 returns c =
     flushed-counts c.args.self _ _ c.requires _ _ _ _ _
-    (accepted c.args.self.list _ c.args.self.block _ c.requires _ c.arena.ensures _ _ c.transfer-done.ensures _ c.minus-left.ensures _ refl _ c.plus-bytes.ensures _ refl)
+    (accepted c.args.self.list _ c.args.self.block _ c.requires _ c.arena.ensures _ _ c.transfer-done.ensures _ c.minus-left.ensures _ refl _ c.plus-bytes.ensures _ refl _ refl)

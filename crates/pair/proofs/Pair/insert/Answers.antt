@@ -1,17 +1,13 @@
 -- `Pair::insert` meets its contract: 5, 6, and then the place. Assumes nothing.
 use Rattle.pair.specs.Calls.{changed}
-use Rattle.pair.proofs.Calling.{saw-checked, answers-5, answers-6}
+use Rattle.pair.proofs.Calling.{saw-checked, answers-err}
 use Rattle.pair.proofs.Inserting.{is-insert}
 use Rattle.pair.proofs.Pair.insert.Goals as goal
 
 pub insert_at-requires : goal.insert_at-requires
 insert_at-requires c =
-    saw-checked _ _ _ _ _ c.check.ensures _ _ c.in-Good.is
+    saw-checked _ _ _ _ _ c.check.ensures _ _ c.in-Ok.is
 
-pub returns-in-BadSetUp : goal.returns-in-BadSetUp
-returns-in-BadSetUp c =
-    answers-5 _ _ _ _ _ c.check.ensures changed _ _ (is-insert _ _ _ c.args.range) c.in-BadSetUp.is _ c.refused.ensures
-
-pub returns-in-Damaged : goal.returns-in-Damaged
-returns-in-Damaged c =
-    answers-6 _ _ _ _ _ c.check.ensures changed _ _ (is-insert _ _ _ c.args.range) c.in-Damaged.is _ c.refused-in-Damaged.ensures
+pub returns-in-Err : goal.returns-in-Err
+returns-in-Err c =
+    answers-err _ _ _ _ _ c.check.ensures changed _ _ (is-insert _ _ _ c.args.range) _ c.in-Err.is _ c.refused.ensures

@@ -15,9 +15,9 @@ check_range-requires c =
 pub returns-in_default : goal.returns-in_default
 returns-in_default c =
     asked-4 _ _ _ c.args.range _ _ c.requires _ c.arena.ensures _ c.by_bit.ensures _ c.check_range.ensures
-    changed _ _ (is-insert _ _ _ c.args.range) (λ g. rw g) c.in_default.not-Good _ c.refused.ensures
+    changed _ _ (is-insert _ _ _ c.args.range) (λ g. rw g) (c.in_default.not-Ok tt) _ c.refused.ensures
 
 pub returns-then-taken : goal.returns-then-taken
 returns-then-taken c =
-    let wanted = asked-good _ _ _ c.args.range _ _ c.requires _ c.arena.ensures _ c.by_bit.ensures _ c.check_range.ensures c.in-Good.is in
+    let wanted = asked-good _ _ _ c.args.range _ _ c.requires _ c.arena.ensures _ c.by_bit.ensures _ c.check_range.ensures c.in-Ok.is in
     taken-1 _ _ _ c.args.range _ _ wanted _ c.taken.ensures c.if-taken.true _ c.refused-then-taken.ensures

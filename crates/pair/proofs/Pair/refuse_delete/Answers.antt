@@ -18,10 +18,10 @@ pub size-requires : goal.size-requires
 size-requires c =
     nowhere-order _ _ _ c.args.range c.requires
 
-pub returns-then-same : goal.returns-then-same
-returns-then-same c =
-    nowhere-7 _ _ _ c.args.range c.requires _ c.arena.ensures _ c.list_share-listed.ensures _ c.table_share-tabled.ensures _ c.plus.ensures _ c.size.ensures _ c.same.ensures c.if-same.true _ c.refused.ensures
+pub returns-then-eq : goal.returns-then-eq
+returns-then-eq c =
+    nowhere-7 _ _ _ c.args.range c.requires _ c.arena.ensures _ c.list_share-listed.ensures _ c.table_share-tabled.ensures _ c.plus.ensures _ c.size.ensures _ c.eq.ensures c.if-eq.true _ c.refused.ensures
 
 pub returns : goal.returns
 returns c =
-    nowhere-1 _ _ _ c.args.range c.requires _ c.arena.ensures _ c.list_share-listed.ensures _ c.table_share-tabled.ensures _ c.plus.ensures _ c.size.ensures _ c.same.ensures c.if-same.false _ c.refused-2.ensures
+    nowhere-1 _ _ _ c.args.range c.requires _ c.arena.ensures _ c.list_share-listed.ensures _ c.table_share-tabled.ensures _ c.plus.ensures _ c.size.ensures _ c.eq.ensures c.if-eq.false _ c.refused-2.ensures

@@ -5,8 +5,8 @@ use Rattle.pair_words.proofs.walks.place_beside.Goals as goal
 pub returns-then-le : goal.returns-then-le
 returns-then-le c = search placings
 
-pub returns-then-not-le : goal.returns-then-not-le
-returns-then-not-le c = search placings
+pub returns-then-lt : goal.returns-then-lt
+returns-then-lt c = search placings
 
 pub loop-i-preserved : goal.loop-i-preserved
 loop-i-preserved c = search placings

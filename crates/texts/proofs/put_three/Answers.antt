@@ -1,8 +1,0 @@
-use mathlib.Core.List.{[], ◌∷◌}
-use Rattle.texts.proofs.Writing.{wrote-line}
-use Rattle.texts.proofs.put_three.Goals as goal
-
-pub returns : goal.returns
-returns c =
-    let x = c.args in
-    wrote-line x.a x.b (x.c ∷ []) c.put-next.ensures c.put_two.ensures
