@@ -33,6 +33,7 @@ pub fn pair_at(words: &[u64], i: usize) -> Range
 }
 
 // Whether every pair word from pair n on is 0: all are OR-ed and tested at the end, so that the compiler takes several a turn.
+#[tactic(auto, using(crate::proofs::Zeros::zero_ways))]
 fn is_zero(words: &[u64], n: usize) -> bool
     requires { n ≤ length words.now / 2 }
     ensures { result ≡ all_zero (drop (2 * n) words.now) }

@@ -41,6 +41,7 @@ fn entry_at(words: &[u64], n: usize, i: usize) -> Entry
 }
 
 // The first range that reaches an address.
+#[tactic(auto, using(crate::proofs::Seeking::places))]
 fn reached(words: &[u64], n: usize, x: Addr) -> Entry
     requires { Rising words.now n }
     ensures { result ≡ entry_of (Aim.Reach x) (pairs words.now n) }
@@ -133,6 +134,7 @@ pub fn found(words: &[u64], n: usize, which: Which, size: Size) -> Entry
 }
 
 // What an aim keeps.
+#[tactic(auto, using(crate::proofs::Seeking::places))]
 pub fn entry(words: &[u64], n: usize, aim: Aim) -> Entry
     requires { Rising words.now n }
     ensures { result ≡ entry_of aim (pairs words.now n) }
