@@ -6,7 +6,7 @@
 
 pub mod walks;
 
-ghost use Rattle.std.specs.Prelude.{cond, ◌≡◌, leb};
+ghost use Rattle.std.specs.Prelude.{◌≡◌};
 ghost use Rattle.units.specs.declared.aims.Aim.{Aim};
 ghost use Rattle.list_words.specs.inner.Surveys.{walk_of, kept_of};
 ghost use Rattle.block_words.specs.Words.{pairs};
@@ -17,31 +17,12 @@ ghost use Rattle.pair_words.specs.inner.Lefts.{Left};
 use list_words::Spot;
 use units::{Addr, Arena, Range, Size};
 
-// The higher and the lower of two addresses.
-fn higher(x: Addr, y: Addr) -> Addr
-    ensures { result.0 ≡ cond (leb x.0 y.0) y.0 x.0 }
-{
-    if x <= y {
-        return y;
-    }
-    x
-}
-
-fn lower(x: Addr, y: Addr) -> Addr
-    ensures { result.0 ≡ cond (leb x.0 y.0) x.0 y.0 }
-{
-    if x <= y {
-        return x;
-    }
-    y
-}
-
 // The bytes of y that are in a range.
 fn common(y: Range, here: Range) -> Size
     ensures { result.0 ≡ share y here }
 {
-    let from = higher(y.base, here.base);
-    let upto = lower(y.limit, here.limit);
+    let from = y.base.max(here.base);
+    let upto = y.limit.min(here.limit);
     if upto <= from {
         return Size::new(0);
     }
