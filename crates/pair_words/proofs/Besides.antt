@@ -35,10 +35,9 @@ module _ (vs : List ℕ) (n : ℕ) (r : units.Range) (from : ℕ) where
     pub place_inside : i < n → i < capacity vs
     place_inside k = omega (arith, s.fits)
 
-    pub place_end : n ≤ i → Some n ≡ beside_of r from (behind vs n from)
+    pub place_end : n ≤ i → Some i ≡ beside_of r from (behind vs n from)
     place_end k =
-        let e : n ≡ i = omega (arith, s.upto) in
-        ap (λ (x : ℕ). Some x) e ∙ sym (ap (beside_of r i) (pairs_end vs n i k)) ∙ s.left
+        sym (ap (beside_of r i) (pairs_end vs n i k)) ∙ s.left
 
     module _ (k : i < n) (q : units.Range) (eq : q ≡ pair_at vs i) where
       here : beside_of r i (plain q ∷ behind vs n (i + 1)) ≡ beside_of r from (behind vs n from)

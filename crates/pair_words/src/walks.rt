@@ -20,7 +20,8 @@ fn place_beside(nodes: &[u64], n: usize, from: usize, here: Range) -> Option<usi
     requires from_le_n { from ≤ n }
     ensures { result ≡ beside_of here from (behind nodes.now n from) }
 {
-    for i in from..n {
+    let mut i = from;
+    while i < n {
         let pair = block_words::pair_at(nodes, i);
         if here.base < pair.limit {
             if here.limit <= pair.base {
@@ -28,8 +29,9 @@ fn place_beside(nodes: &[u64], n: usize, from: usize, here: Range) -> Option<usi
             }
             return None;
         }
+        i += 1;
     }
-    Some(n)
+    Some(i)
 }
 
 // The walk from head up to the first range that fits (none, behind the last range, where there is none), with the cursor behind it,
