@@ -149,13 +149,14 @@ fn flush_all(list: ListLand, words: &[u64], block: BlockLand, nodes: &mut [u64])
     requires { check_of list words.now block nodes.old ≡ Ok tt }
     ensures { (result ≡ (flushed list words.now block nodes.old).result) × (nodes.new ≡ (flushed list words.now block nodes.old).nodes) }
 {
-    let head = list.head;
-    let done = transfers::transfer(list.arena(), words, head, nodes, block.ranges);
-    let at = done.at;
-    let bytes = done.bytes;
+    let done = transfers::transfer(list.arena(), words, list.head, nodes, block.ranges);
     Flushed {
-        list: list.close(at, list.ranges - done.moved, list.bytes.minus(bytes)),
-        block: block.close(done.count, block.bytes.plus(bytes)),
+        list: list.close(
+            done.at,
+            list.ranges - done.moved,
+            list.bytes.minus(done.bytes),
+        ),
+        block: block.close(done.count, block.bytes.plus(done.bytes)),
         answer: 0,
         moved: done.moved,
         stop: stop_number(done.stop),

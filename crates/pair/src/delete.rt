@@ -28,9 +28,7 @@ impl Pair {
         requires { Nowhere self words.now nodes.now range }
         ensures { (result ≡ changed (deleted self words.now nodes.now range)) × (words.now ≡ (deleted self words.now nodes.now range).words.list) × (nodes.now ≡ (deleted self words.now nodes.now range).words.block) }
     {
-        let list = self.list;
-        let head = list.head;
-        let listed = pair_words::list_share(list.arena(), words, head, range);
+        let listed = pair_words::list_share(self.list.arena(), words, self.list.head, range);
         let tabled = pair_words::table_share(nodes, self.block.ranges, range);
         if listed.plus(tabled) == range.size() {
             return refused(self, Refusal::InBoth);
@@ -53,14 +51,12 @@ impl Pair {
         let here = entry.here;
         let upper = Range::new(range.limit, here.limit);
         let above = Range::new(range.base, here.limit);
-        let list = self.list;
-        let joined = list_edits::join_at(list.arena(), words, list.chain(), upper, spot);
+        let joined = list_edits::join_at(self.list.arena(), words, self.list.chain(), upper, spot);
         let chain = joined.chain;
-        let list = list.close(chain.head, chain.ranges, chain.bytes);
+        let list = self.list.close(chain.head, chain.ranges, chain.bytes);
         let block = take_tabled(self.block, nodes, entry.number, above);
-        let pair = Pair { list, block };
         Changed {
-            pair,
+            pair: Pair { list, block },
             answer: 0,
             range: here,
         }
@@ -84,13 +80,10 @@ impl Pair {
                 _ => self.refuse_delete(words, nodes, range),
             },
             Ok(edited) => {
-                let list = self.list;
-                let land = self.block;
-                let bytes = land.bytes.minus(range.size());
-                let block = land.close(edited.count, bytes);
-                let pair = Pair { list, block };
+                let bytes = self.block.bytes.minus(range.size());
+                let block = self.block.close(edited.count, bytes);
                 Changed {
-                    pair,
+                    pair: Pair { block, ..self },
                     answer: 0,
                     range: edited.range,
                 }
@@ -110,15 +103,12 @@ impl Pair {
         requires { Asked self words.old nodes.old range spot entry }
         ensures { (result ≡ changed (deleted self words.old nodes.old range)) × (words.new ≡ (deleted self words.old nodes.old range).words.list) × (nodes.new ≡ (deleted self words.old nodes.old range).words.block) }
     {
-        let here = spot.here;
-        if begins_below(range, here) {
-            let block = self.block;
+        if begins_below(range, spot.here) {
             let list = take_listed(self.list, words, range, spot);
-            let pair = Pair { list, block };
             return Changed {
-                pair,
+                pair: Pair { list, ..self },
                 answer: 0,
-                range: here,
+                range: spot.here,
             };
         }
         self.delete_tabled(words, nodes, range, spot, entry)
@@ -147,8 +137,7 @@ impl Pair {
     pub fn delete(self, words: &mut [u64], nodes: &mut [u64], range: Range) -> Changed
         ensures { (result ≡ changed (deleted self words.old nodes.old range)) × (words.new ≡ (deleted self words.old nodes.old range).words.list) × (nodes.new ≡ (deleted self words.old nodes.old range).words.block) }
     {
-        let limit = range.limit;
-        match self.check(words, nodes, Aim::Reach(limit)) {
+        match self.check(words, nodes, Aim::Reach(range.limit)) {
             Ok((spot, entry)) => self.delete_at(words, nodes, range, spot, entry),
             Err(refusal) => refused(self, refusal),
         }

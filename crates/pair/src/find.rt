@@ -78,10 +78,8 @@ impl Pair {
         requires { ListChosen self.list words.old which size spot }
         ensures { (result ≡ list_found self (list.found self.list words.old which size.0 mode)) × (words.new ≡ (list.found self.list words.old which size.0 mode).words) }
     {
-        let list = self.list;
-        let block = self.block;
         let here = spot.here;
-        let part = finds::part(which, mode, list.arena().find_size(size), here);
+        let part = finds::part(which, mode, self.list.arena().find_size(size), here);
         if let Mode::None = mode {
             return Found {
                 pair: self,
@@ -90,9 +88,9 @@ impl Pair {
                 old: here,
             };
         }
-        let list = take_listed(list, words, part, spot);
+        let list = take_listed(self.list, words, part, spot);
         Found {
-            pair: Pair { list, block },
+            pair: Pair { list, ..self },
             answer: 0,
             range: part,
             old: here,
@@ -111,10 +109,8 @@ impl Pair {
         requires { BlockChosen self.block nodes.old which size entry }
         ensures { (result ≡ block_found self (block.found self.block nodes.old which size.0 mode)) × (nodes.new ≡ (block.found self.block nodes.old which size.0 mode).words) }
     {
-        let list = self.list;
-        let block = self.block;
         let here = entry.here;
-        let part = finds::part(which, mode, block.arena().find_size(size), here);
+        let part = finds::part(which, mode, self.block.arena().find_size(size), here);
         if let Mode::None = mode {
             return Found {
                 pair: self,
@@ -123,9 +119,9 @@ impl Pair {
                 old: here,
             };
         }
-        let block = take_tabled(block, nodes, entry.number, part);
+        let block = take_tabled(self.block, nodes, entry.number, part);
         Found {
-            pair: Pair { list, block },
+            pair: Pair { block, ..self },
             answer: 0,
             range: part,
             old: here,

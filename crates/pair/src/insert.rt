@@ -42,23 +42,15 @@ impl Pair {
     {
         let list = self.list;
         let block = self.block;
-        let head = list.head;
-        let done = transfers::transfer(list.arena(), words, head, nodes, block.ranges);
-        let at = done.at;
-        let ranges = list.ranges - done.moved;
-        let moved = done.bytes;
-        let held = list.bytes;
-        let left = held.minus(moved);
-        let bytes = block.bytes.plus(moved);
-        let chain = Chain {
-            head: at,
-            ranges,
-            bytes: left,
-        };
+        let done = transfers::transfer(list.arena(), words, list.head, nodes, block.ranges);
         Counts {
-            chain,
+            chain: Chain {
+                head: done.at,
+                ranges: list.ranges - done.moved,
+                bytes: list.bytes.minus(done.bytes),
+            },
             ranges: done.count,
-            bytes,
+            bytes: block.bytes.plus(done.bytes),
         }
     }
 
@@ -67,23 +59,15 @@ impl Pair {
         requires { Roomless (closed_by self rest) words.old range spot }
         ensures { (result ≡ enter_list (closed_by self rest) words.old range) × (words.new ≡ enter_words (closed_by self rest) words.old range) }
     {
-        let list = self.list;
-        let chain = rest.chain;
-        let head = chain.head;
-        let arena = list.arena();
-        let place = pair_words::spot_left(arena, words, head, range.base, spot);
-        let joined = list_edits::join_at(arena, words, chain, range, place);
-        let chain = joined.chain;
-        let bytes = rest.bytes;
-        let counts = Counts {
-            chain,
-            ranges: rest.ranges,
-            bytes,
-        };
-        let whole = joined.range;
+        let arena = self.list.arena();
+        let place = pair_words::spot_left(arena, words, rest.chain.head, range.base, spot);
+        let joined = list_edits::join_at(arena, words, rest.chain, range, place);
         Entered {
-            counts,
-            range: whole,
+            counts: Counts {
+                chain: joined.chain,
+                ..rest
+            },
+            range: joined.range,
         }
     }
 
@@ -104,16 +88,13 @@ impl Pair {
         match block_edits::join_at(nodes, rest.ranges, i, range) {
             Err(_) => self.enter_list(rest, words, range, spot),
             Ok(edited) => {
-                let chain = rest.chain;
-                let held = rest.bytes;
-                let bytes = held.plus(range.size());
-                let counts = Counts {
-                    chain,
-                    ranges: edited.count,
-                    bytes,
-                };
+                let bytes = rest.bytes.plus(range.size());
                 Entered {
-                    counts,
+                    counts: Counts {
+                        ranges: edited.count,
+                        bytes,
+                        ..rest
+                    },
                     range: edited.range,
                 }
             }
@@ -125,10 +106,10 @@ impl Pair {
         ensures { result ≡ closed_by self counts }
     {
         let chain = counts.chain;
-        let bytes = counts.bytes;
-        let list = self.list.close(chain.head, chain.ranges, chain.bytes);
-        let block = self.block.close(counts.ranges, bytes);
-        Pair { list, block }
+        Pair {
+            list: self.list.close(chain.head, chain.ranges, chain.bytes),
+            block: self.block.close(counts.ranges, counts.bytes),
+        }
     }
 
     // Whether some byte of the range is free in either land.
@@ -173,15 +154,11 @@ impl Pair {
         ensures { (result ≡ changed (inserted self words.old nodes.old range)) × (words.new ≡ (inserted self words.old nodes.old range).words.list) × (nodes.new ≡ (inserted self words.old nodes.old range).words.block) }
     {
         let ready = self.prepared(words, nodes, range, entry);
-        let rest = ready.counts;
-        let done = self.enter(rest, words, nodes, range, spot, ready.place);
-        let counts = done.counts;
-        let pair = self.close(counts);
-        let fresh = done.range;
+        let done = self.enter(ready.counts, words, nodes, range, spot, ready.place);
         Changed {
-            pair,
+            pair: self.close(done.counts),
             answer: 0,
-            range: fresh,
+            range: done.range,
         }
     }
 
@@ -211,8 +188,7 @@ impl Pair {
     pub fn insert(self, words: &mut [u64], nodes: &mut [u64], range: Range) -> Changed
         ensures { (result ≡ changed (inserted self words.old nodes.old range)) × (words.new ≡ (inserted self words.old nodes.old range).words.list) × (nodes.new ≡ (inserted self words.old nodes.old range).words.block) }
     {
-        let base = range.base;
-        match self.check(words, nodes, Aim::Reach(base)) {
+        match self.check(words, nodes, Aim::Reach(range.base)) {
             Ok((spot, entry)) => self.insert_at(words, nodes, range, spot, entry),
             Err(refusal) => refused(self, refusal),
         }

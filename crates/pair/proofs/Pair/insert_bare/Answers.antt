@@ -12,4 +12,4 @@ enter-done-requires-clause-fact c = bare-open c.args.self _ _ c.args.range _ c.a
 pub returns : goal.returns
 returns c =
     bare-0 c.args.self _ _ c.args.range _ c.args.entry c.requires _ _ c.prepared-ready.ensures.0
-    _ _ _ c.enter-done.ensures _ c.close-pair.ensures
+    _ _ _ c.enter-done.ensures _ c.close.ensures
