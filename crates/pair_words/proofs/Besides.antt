@@ -7,9 +7,9 @@ use native.Mathlib.Omega.{arith}
 use lib.Dec.{leb}
 use borrow.Author.Tests.{leb-true, leb-false, le-leb, lt-leb}
 use Rattle.std.specs.Prelude.{Option, Some, None}
-use Rattle.list_words.proofs.Surveying.{checked_number}
 use Rattle.units.specs.inner.Parts.{soundness_of}
 use Rattle.units.specs.declared.Range as units
+use Rattle.units.proofs.Cases.{checked_number}
 use Rattle.units.proofs.Orders.{orders}
 use Rattle.units.proofs.Tests.{by}
 use Rattle.model.specs.Marks.{Range, struct}

@@ -1,6 +1,6 @@
 -- What the look of a land says: 5, 6, or what an aim keeps of a sound land; and what a step of a sound land gives. Assumes nothing.
 use Prim.Native.Nat.{ℕ, ◌<◌}
-use mathlib.Core.Bool.{Bool, true, false}
+use mathlib.Core.Bool.{Bool, true, false, cond}
 use mathlib.Core.List.{List}
 use mathlib.Core.Option.{none}
 use mathlib.Core.Path.{◌≡◌, refl, sym, ap, ◌∙◌}
@@ -47,10 +47,19 @@ module _ {S : Type 0} (g s : Bool) (k : S) where
       go true false e bad damaged = damaged refl refl cc
       go true true e bad damaged = let z : ◌≡◌ {A = ℕ} 0 1 = cc in absurd (omega arith)
 
-fault-is : {S : Type 0} (g s : Bool) (k : S) (rs : List Range) → look_number (look_of g s k) ≡ fault-number (reading g s rs)
-fault-is false s k rs = refl
-fault-is true false k rs = refl
-fault-is true true k rs = refl
+-- and its number
+abbrev pub said : Bool → Bool → ℕ
+said g s = cond g (cond s 0 6) 5
+
+number_is : {S : Type 0} (g s : Bool) (k : S) → look_number (look_of g s k) ≡ said g s
+number_is false s k = refl
+number_is true false k = refl
+number_is true true k = refl
+
+fault-is : (g s : Bool) (rs : List Range) → said g s ≡ fault-number (reading g s rs)
+fault-is false s rs = refl
+fault-is true false rs = refl
+fault-is true true rs = refl
 
 module _ {H S C F : Type 0} (I : Land H S C F) where
   abbrev LandDone : Type 0
@@ -72,12 +81,13 @@ module _ {H S C F : Type 0} (I : Land H S C F) where
   abbrev pub Kept : H → List ℕ → Aim → S → Type 0
   Kept h ws aim s = Looked (I.set-up h ws) (I.sound h ws) (I.keep aim (I.ranges h ws)) s
 
+  pub look-said : (h : H) (ws : List ℕ) (aim : Aim) → look_number (I.look h ws aim) ≡ said (I.set-up h ws) (I.sound h ws)
+  look-said h ws aim = ap look_number (I.looks h ws aim) ∙ number_is (I.set-up h ws) (I.sound h ws) (I.keep (I.aimed h aim) (I.ranges h ws))
+
   -- the number of a look is the one that the handle and the words are read with
   pub look-number : (h : H) (ws : List ℕ) (aim : Aim) → look_number (I.look h ws aim) ≡ fault-number (I.layout.read h ws)
   look-number h ws aim =
-      ap look_number (I.looks h ws aim)
-      ∙ fault-is (I.set-up h ws) (I.sound h ws) (I.keep (I.aimed h aim) (I.ranges h ws)) (I.ranges h ws)
-      ∙ ap fault-number (sym (I.reads h ws))
+      look-said h ws aim ∙ fault-is (I.set-up h ws) (I.sound h ws) (I.ranges h ws) ∙ ap fault-number (sym (I.reads h ws))
 
   -- writing what is read changes no word
   pub read_back : (h : H) (ws : List ℕ) (rs : List Range) → I.layout.read h ws ≡ holding rs → I.layout.words h ws rs ≡ ws
