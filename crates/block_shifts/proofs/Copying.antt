@@ -4,8 +4,8 @@ use mathlib.Core.Bool.{true}
 use mathlib.Core.List.{List, [], ◌∷◌, ◌++◌}
 use mathlib.Core.Path.{◌≡◌, refl, sym, ap, ◌∙◌}
 use native.Mathlib.Omega.{arith}
-use lib.ListN.{length, take, drop, replicate}
-use lib.Seq.{paste, paste-zero, length-take-le}
+use lib.ListN.{length, take, drop}
+use lib.Seq.{paste, paste-zero}
 use Rattle.units.proofs.Tests.{conj}
 use Rattle.model.specs.Marks.{Range, rng}
 use Rattle.block_words.specs.Words.{capacity, pairs, all_zero, fill}
@@ -117,16 +117,3 @@ copied-down (w ∷ v ∷ ws) (suc n) (suc i) h f c =
     let d : 2 * suc n ≡ suc (suc (2 * n)) = omega arith in
     let p = copied-down ws n i (omega arith) (omega arith) (rw d at c) in
     (p.0, down-on w v ws n i p.0 (omega arith) p.1)
-
--- all pair words 0, and an odd last word as it was
-zeroed : (ws : List ℕ) → replicate (length ws / 2 * 2) 0 ++ drop (length ws / 2 * 2) ws ≡ fill [] ws
-zeroed [] = refl
-zeroed (w ∷ []) = refl
-zeroed (w ∷ v ∷ ws) =
-    let e : suc (suc (length ws)) / 2 * 2 ≡ suc (suc (length ws / 2 * 2)) = omega arith in
-    rw e (ap (λ (x : List ℕ). 0 ∷ 0 ∷ x) (zeroed ws))
-
-pub cleared : (ws u : List ℕ) → u ≡ replicate (length (take (length ws / 2 * 2) ws)) 0 → u ++ drop (length ws / 2 * 2) ws ≡ fill [] ws
-cleared ws u e =
-    let l : length (take (length ws / 2 * 2) ws) ≡ length ws / 2 * 2 = length-take-le (length ws / 2 * 2) ws (omega arith) in
-    rw (e, l) (zeroed ws)
