@@ -52,6 +52,7 @@ fn refuse(pair: Pair, words: &[u64], nodes: &[u64]) -> Found
 }
 
 // The find that `which` names, with its size and its mode as numbers.
+#[inline(always)]
 fn find(
     pair: Pair,
     words: &mut [u64],
@@ -62,9 +63,16 @@ fn find(
 ) -> Found
     ensures { (result ≡ found_of (found_by pair words.old nodes.old which size mode)) × (words.new ≡ (found_by pair words.old nodes.old which size mode).words.list) × (nodes.new ≡ (found_by pair words.old nodes.old which size mode).words.block) }
 {
-    match modes::mode_of(mode) {
+    let found = match modes::mode_of(mode) {
         Some(mode) => pair.find(words, nodes, which, Size::new(size), mode),
         None => refuse(pair, words, nodes),
+    };
+    // Made anew from its parts: handed on whole, it would be copied by a call of memcpy.
+    Found {
+        pair: found.pair,
+        answer: found.answer,
+        range: found.range,
+        old: found.old,
     }
 }
 
