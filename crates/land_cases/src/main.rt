@@ -10,6 +10,8 @@
 // be read ends the program. It reads 262,144 bytes at most. Where a write fails, the program ends with that error.
 #![tactic(auto)]
 
+ghost use Rattle.std.specs.Prelude.{◌≤◌, length};
+
 mod numbers;
 mod outcomes;
 mod records;
@@ -19,7 +21,9 @@ use std::io;
 use std::io::Read;
 
 // Reads until the buffer is full, the input ends or a read fails, and answers the bytes that were read.
-fn read_full<'a, R: Read>(from: &mut R, space: &'a mut [u8]) -> &'a [u8] {
+fn read_full<'a, R: Read>(from: &mut R, space: &'a mut [u8]) -> &'a [u8]
+    ensures { length result.now ≤ length space.old }
+{
     let mut done: usize = 0;
     while done < space.len() {
         match from.read(&mut space[done..]) {

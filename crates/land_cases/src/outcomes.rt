@@ -1,54 +1,84 @@
-// What a call returned, as it is printed.
+// What a call returned, and how it is printed.
 use block_land::BlockLand;
 use flush::Flushed;
 use list_land::ListLand;
 use pair::Pair;
-use std::fmt;
-use units::Range;
+use std::io;
+use units::{Addr, Range, Size};
 
-// Something whose numbers are printed, each behind a space.
-#[derive(Clone, Copy)]
-pub struct Spaced<T>(pub T);
+// Numbers that are printed, each behind a space and by a call of its own: std tries a write that is interrupted so often for
+// each call.
+pub trait Show {
+    fn show<R: Print>(&self, rt: &R) -> io::Result<()>;
+}
 
-impl fmt::Display for Spaced<&[u64]> {
-    fn fmt<W: fmt::Write>(&self, f: &mut fmt::Formatter<W>) -> fmt::Result {
-        for n in self.0 {
-            write!(f, " {n}")?;
+impl Show for u64 {
+    fn show<R: Print>(&self, rt: &R) -> io::Result<()> {
+        print!(rt; " {self}")
+    }
+}
+
+impl Show for &[u64] {
+    fn show<R: Print>(&self, rt: &R) -> io::Result<()> {
+        for n in *self {
+            n.show(rt)?;
         }
         Ok(())
     }
 }
 
-impl fmt::Display for Spaced<Range> {
-    fn fmt<W: fmt::Write>(&self, f: &mut fmt::Formatter<W>) -> fmt::Result {
-        write!(f, " {} {}", self.0.base.number(), self.0.limit.number())
+impl Show for Addr {
+    fn show<R: Print>(&self, rt: &R) -> io::Result<()> {
+        self.number().show(rt)
     }
 }
 
-impl fmt::Display for Spaced<ListLand> {
-    fn fmt<W: fmt::Write>(&self, f: &mut fmt::Formatter<W>) -> fmt::Result {
-        let land = self.0;
-        write!(f, " {} {}", land.base.number(), land.limit.number())?;
-        write!(f, " {} {}", land.align.number(), land.head.number())?;
-        write!(f, " {} {}", land.ranges, land.bytes.number())?;
-        write!(f, " {} {}", land.water.filled, land.water.low.number())
+impl Show for Size {
+    fn show<R: Print>(&self, rt: &R) -> io::Result<()> {
+        self.number().show(rt)
     }
 }
 
-// With head 0.
-impl fmt::Display for Spaced<BlockLand> {
-    fn fmt<W: fmt::Write>(&self, f: &mut fmt::Formatter<W>) -> fmt::Result {
-        let land = self.0;
-        write!(f, " {} {}", land.base.number(), land.limit.number())?;
-        write!(f, " {} 0", land.align.number())?;
-        write!(f, " {} {}", land.ranges, land.bytes.number())?;
-        write!(f, " {} {}", land.water.filled, land.water.low.number())
+impl Show for Range {
+    fn show<R: Print>(&self, rt: &R) -> io::Result<()> {
+        self.base.show(rt)?;
+        self.limit.show(rt)
     }
 }
 
-impl fmt::Display for Spaced<Pair> {
-    fn fmt<W: fmt::Write>(&self, f: &mut fmt::Formatter<W>) -> fmt::Result {
-        write!(f, "{}{}", Spaced(self.0.list), Spaced(self.0.block))
+impl Show for ListLand {
+    fn show<R: Print>(&self, rt: &R) -> io::Result<()> {
+        self.base.show(rt)?;
+        self.limit.show(rt)?;
+        self.align.number().show(rt)?;
+        self.head.show(rt)?;
+        self.ranges.show(rt)?;
+        self.bytes.show(rt)?;
+        self.water.filled.show(rt)?;
+        self.water.low.show(rt)
+    }
+}
+
+// In the form of a list land's handle, with head 0.
+impl Show for BlockLand {
+    fn show<R: Print>(&self, rt: &R) -> io::Result<()> {
+        let land = ListLand {
+            base: self.base,
+            limit: self.limit,
+            align: self.align,
+            head: Addr::new(0),
+            ranges: self.ranges,
+            bytes: self.bytes,
+            water: self.water,
+        };
+        land.show(rt)
+    }
+}
+
+impl Show for Pair {
+    fn show<R: Print>(&self, rt: &R) -> io::Result<()> {
+        self.list.show(rt)?;
+        self.block.show(rt)
     }
 }
 
@@ -61,14 +91,23 @@ pub struct Outcome<H> {
     old: Range,
 }
 
-impl<H: Copy> fmt::Display for Outcome<H>
-where
-    Spaced<H>: fmt::Display,
-{
-    fn fmt<W: fmt::Write>(&self, f: &mut fmt::Formatter<W>) -> fmt::Result {
-        write!(f, "{}{}", self.answer, Spaced(self.handle))?;
-        write!(f, "{}{}", Spaced(self.range), Spaced(self.old))
+impl<H: Show> Outcome<H> {
+    // The answer begins a line.
+    pub fn begin<R: Print>(&self, rt: &R) -> io::Result<()> {
+        print!(rt; "{}", self.answer)?;
+        self.handle.show(rt)?;
+        self.range.show(rt)?;
+        self.old.show(rt)
     }
+}
+
+// The answer of a flush begins a line; the number moved, the stop and the two handles.
+pub fn begin_flush<R: Print>(flushed: &Flushed, rt: &R) -> io::Result<()> {
+    print!(rt; "{}", flushed.answer)?;
+    flushed.moved.show(rt)?;
+    flushed.stop.show(rt)?;
+    flushed.list.show(rt)?;
+    flushed.block.show(rt)
 }
 
 impl<H> Outcome<H> {
@@ -146,14 +185,5 @@ impl From<pair::Found> for Outcome<Pair> {
             range: found.range,
             old: found.old,
         }
-    }
-}
-
-// The answer, the number moved, the stop and the two handles.
-impl fmt::Display for Spaced<Flushed> {
-    fn fmt<W: fmt::Write>(&self, f: &mut fmt::Formatter<W>) -> fmt::Result {
-        let flushed = self.0;
-        write!(f, "{} {} {}", flushed.answer, flushed.moved, flushed.stop)?;
-        write!(f, "{}{}", Spaced(flushed.list), Spaced(flushed.block))
     }
 }

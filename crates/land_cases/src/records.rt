@@ -1,6 +1,6 @@
 // Records: what each asks for, and its line.
 use crate::numbers::Numbers;
-use crate::outcomes::{Outcome, Spaced};
+use crate::outcomes::{Outcome, Show, begin_flush};
 use block_land::BlockLand;
 use list_land::ListLand;
 use pair::Pair;
@@ -186,21 +186,25 @@ impl Record<'_> {
     pub fn play<R: Print>(self, rt: &R) -> io::Result<()> {
         match self {
             Record::List(land, words, call) => {
-                let outcome = call.on_list(land, words);
-                println!(rt; "{outcome}{}", Spaced(&*words))
+                call.on_list(land, words).begin(rt)?;
+                (&*words).show(rt)?;
             }
             Record::Block(land, nodes, call) => {
-                let outcome = call.on_block(land, nodes);
-                println!(rt; "{outcome}{}", Spaced(&*nodes))
+                call.on_block(land, nodes).begin(rt)?;
+                (&*nodes).show(rt)?;
             }
             Record::Flush(pair, words, nodes) => {
                 let flushed = flush::flush(pair.list, words, pair.block, nodes);
-                println!(rt; "{}{}{}", Spaced(flushed), Spaced(&*nodes), Spaced(&*words))
+                begin_flush(&flushed, rt)?;
+                (&*nodes).show(rt)?;
+                (&*words).show(rt)?;
             }
             Record::Pair(pair, words, nodes, call) => {
-                let outcome = call.on(pair, words, nodes);
-                println!(rt; "{outcome}{}{}", Spaced(&*nodes), Spaced(&*words))
+                call.on(pair, words, nodes).begin(rt)?;
+                (&*nodes).show(rt)?;
+                (&*words).show(rt)?;
             }
         }
+        println!(rt)
     }
 }
