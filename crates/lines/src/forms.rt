@@ -2,7 +2,7 @@
 ghost use Rattle.std.specs.Prelude.{◌≡◌, [], ◌∷◌};
 ghost use Rattle.lines.specs.Requests.{request_of, mode_of, range_form, find_form, arena_form};
 ghost use Rattle.lines.specs.inner.Reading.{name_in, number_in, fields_in};
-ghost use Rattle.lines.specs.inner.Parts.{letters_of, bounds_of};
+ghost use Rattle.lines.specs.inner.Parts.{bounds_of};
 
 use crate::{Field, Line, Request};
 use units::{Addr, Align, Mode, Range, Size, Which};
@@ -33,16 +33,6 @@ const HIGH: u64 = 0x68696768;
 const ENTIRE: u64 = 0x656e74697265;
 
 impl Field {
-    // The letters of a name.
-    fn name(self) -> Option<u64>
-        ensures { result ≡ letters_of self }
-    {
-        match self {
-            Field::Name(letters) => Some(letters),
-            _ => None,
-        }
-    }
-
     fn number(self) -> Option<u64>
         ensures { result ≡ number_in self }
     {
@@ -56,11 +46,11 @@ impl Field {
     fn mode(self) -> Option<Mode>
         ensures { result ≡ mode_of name_in number_in self }
     {
-        match self.name()? {
-            NONE => Some(Mode::None),
-            LOW => Some(Mode::Low),
-            HIGH => Some(Mode::High),
-            ENTIRE => Some(Mode::Entire),
+        match self {
+            Field::Name(NONE) => Some(Mode::None),
+            Field::Name(LOW) => Some(Mode::Low),
+            Field::Name(HIGH) => Some(Mode::High),
+            Field::Name(ENTIRE) => Some(Mode::Entire),
             _ => None,
         }
     }
@@ -93,8 +83,8 @@ fn arena(x: Field, y: Field, z: Field) -> Option<Request>
 fn of_one(w: Field) -> Option<Request>
     ensures { result ≡ request_of name_in number_in (w ∷ []) }
 {
-    match w.name()? {
-        DESCRIBE => Some(Request::Describe),
+    match w {
+        Field::Name(DESCRIBE) => Some(Request::Describe),
         _ => None,
     }
 }
@@ -102,8 +92,8 @@ fn of_one(w: Field) -> Option<Request>
 fn of_two(w: Field, x: Field) -> Option<Request>
     ensures { result ≡ request_of name_in number_in (w ∷ x ∷ []) }
 {
-    match w.name()? {
-        WALK => Some(Request::Walk(Addr::new(x.number()?))),
+    match w {
+        Field::Name(WALK) => Some(Request::Walk(Addr::new(x.number()?))),
         _ => None,
     }
 }
@@ -111,12 +101,12 @@ fn of_two(w: Field, x: Field) -> Option<Request>
 fn of_three(w: Field, x: Field, y: Field) -> Option<Request>
     ensures { result ≡ request_of name_in number_in (w ∷ x ∷ y ∷ []) }
 {
-    match w.name()? {
-        INSERT => Some(Request::Insert(range_of(x, y)?)),
-        DELETE => Some(Request::Delete(range_of(x, y)?)),
-        FIRST => finding(Which::First, x, y),
-        LAST => finding(Which::Last, x, y),
-        LARGEST => finding(Which::Largest, x, y),
+    match w {
+        Field::Name(INSERT) => Some(Request::Insert(range_of(x, y)?)),
+        Field::Name(DELETE) => Some(Request::Delete(range_of(x, y)?)),
+        Field::Name(FIRST) => finding(Which::First, x, y),
+        Field::Name(LAST) => finding(Which::Last, x, y),
+        Field::Name(LARGEST) => finding(Which::Largest, x, y),
         _ => None,
     }
 }
@@ -124,8 +114,8 @@ fn of_three(w: Field, x: Field, y: Field) -> Option<Request>
 fn of_four(w: Field, x: Field, y: Field, z: Field) -> Option<Request>
     ensures { result ≡ request_of name_in number_in (w ∷ x ∷ y ∷ z ∷ []) }
 {
-    match w.name()? {
-        ARENA => arena(x, y, z),
+    match w {
+        Field::Name(ARENA) => arena(x, y, z),
         _ => None,
     }
 }

@@ -58,9 +58,13 @@ pub enum Request {
 
 // A number with one digit more, unless it would pass 2^64 - 1.
 fn with_digit(base: u64, value: u64, digit: u64) -> Option<u64>
+    requires { 0 < base }
     ensures { result ≡ with_digit base value digit }
 {
-    value.checked_mul(base)?.checked_add(digit)
+    if (u64::MAX - digit) / base < value {
+        return None;
+    }
+    Some(value * base + digit)
 }
 
 fn name_with(name: u64, b: u8) -> Field

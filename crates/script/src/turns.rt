@@ -12,7 +12,7 @@ ghost use Rattle.script.specs.inner.Feeding.{Fits, Says, Plays, Tells};
 use crate::{Stage, Turn};
 use lines::Request;
 use list_land::{Changed, Found, ListLand};
-use units::{Addr, Arena};
+use units::{Addr, Arena, Mode, Size, Which};
 
 // The number of words between two addresses.
 fn words_between(base: Addr, limit: Addr) -> usize
@@ -87,6 +87,23 @@ fn describe(land: ListLand, words: &[u64], out: &mut [u8], at: usize) -> Turn
     }
 }
 
+// A find on a land whose arena is lent whole. A call of its own, which keeps the loop over the lines short.
+#[inline(never)]
+fn ask_find(
+    land: ListLand,
+    words: &mut [u64],
+    which: Which,
+    size: Size,
+    mode: Mode,
+    out: &mut [u8],
+    at: usize,
+) -> Turn
+    requires { at + 105 ≤ length out.old }
+    ensures { Plays (land_turn land words.old (Some (Request·.Find which size mode))) words.new out.old at out.new result }
+{
+    put_found(land.find(words, which, size, mode), out, at)
+}
+
 // A request on a land whose arena is lent whole.
 fn ask(
     land: ListLand,
@@ -101,14 +118,17 @@ fn ask(
     let Some(request) = request else {
         return unknown(Stage::Open(land), out, at);
     };
-    match request {
-        Request::Arena(..) => unknown(Stage::Open(land), out, at),
-        Request::Insert(range) => put_change(land.insert(words, range), out, at),
-        Request::Delete(range) => put_change(land.delete(words, range), out, at),
-        Request::Find(which, size, mode) => put_found(land.find(words, which, size, mode), out, at),
-        Request::Walk(from) => put_change(land.walk(words, from), out, at),
-        Request::Describe => describe(land, words, out, at),
-    }
+    let changed = match request {
+        Request::Arena(..) => return unknown(Stage::Open(land), out, at),
+        Request::Describe => return describe(land, words, out, at),
+        Request::Find(which, size, mode) => {
+            return ask_find(land, words, which, size, mode, out, at);
+        }
+        Request::Insert(range) => land.insert(words, range),
+        Request::Delete(range) => land.delete(words, range),
+        Request::Walk(from) => land.walk(words, from),
+    };
+    put_change(changed, out, at)
 }
 
 // The same on the first words of those that are there.

@@ -1,5 +1,5 @@
 -- The digits of a number taken one by one, the last one first. Assumes nothing.
-use Prim.Native.Nat.{ℕ, zero, suc, ◌+◌, ◌*◌, ◌/◌, ◌%◌, ◌^◌, ◌≤◌, ◌<◌, max}
+use Prim.Native.Nat.{ℕ, zero, suc, ◌+◌, ◌*◌, ◌/◌, ◌%◌, ◌^◌, ◌≤◌, ◌<◌}
 use mathlib.Core.List.{List, [], ◌∷◌}
 use mathlib.Core.Path.{◌≡◌, refl, sym, ◌∙◌}
 use native.Mathlib.Omega.{arith}
@@ -57,11 +57,10 @@ spell-places (suc f) (suc k) n t p q r =
     let one : 0 < 10 ^ k = pow-some k in
     rw (le-ltb n 10 (omega arith)) (let h = spell-places f k (n / 10) ((48 + n % 10) ∷ t) (omega arith) (omega arith) (omega arith) in omega arith)
 
--- the digit 0 is one as well
-pub decimal_places : (n m k : ℕ) → m ≡ max n 1 → 10 ^ k ≤ m → m < 10 * 10 ^ k → k < 20 → k + 1 ≡ length (decimal n)
+pub decimal_places : (n k : ℕ) → 10 ^ k ≤ n → n < 10 * 10 ^ k → k < 20 → k + 1 ≡ length (decimal n)
 unfolding decimal
-decimal_places zero m zero e p q r = refl
-decimal_places zero m (suc k) e p q r = let w = pow-suc 10 k in let one : 0 < 10 ^ k = pow-some k in absurd (omega arith)
-decimal_places (suc n) m k e p q r =
-    let h = spell-places behind_first k (suc n) [] (omega arith) (omega arith) (omega arith) in
-    omega arith
+decimal_places n k p q r = let h = spell-places behind_first k n [] p q (omega arith) in omega arith
+
+pub one_place : (n : ℕ) → n < 10 → 1 ≡ length (decimal n)
+unfolding decimal
+one_place n p = rw (spell-end behind_first n [] (omega arith)) refl

@@ -8,11 +8,14 @@ ghost use Rattle.texts.specs.Decimal.{decimal, line};
 ghost use Rattle.texts.specs.inner.Writing.{Wrote};
 
 // How many digits a number has.
-#[tactic(auto, using(crate::proofs::Spelling::decimal_places))]
+#[tactic(auto, using(crate::proofs::Spelling::decimal_places, crate::proofs::Spelling::one_place))]
 fn places(n: u64) -> usize
     ensures { result ≡ length (decimal n) }
 {
-    n.max(1).ilog10() as usize + 1
+    if n < 10 {
+        return 1;
+    }
+    n.ilog10() as usize + 1
 }
 
 // The digit d.
@@ -50,7 +53,9 @@ pub fn put_byte(out: &mut [u8], at: usize, b: u8) -> usize
     at + 1
 }
 
-// Writes a line of numbers at a position of a buffer, and returns the position after it.
+// Writes a line of numbers at a position of a buffer, and returns the position after it. Inlined, so that each caller writes its
+// own numbers without a loop.
+#[inline(always)]
 pub fn put_line(out: &mut [u8], at: usize, numbers: &[u64]) -> usize
     requires some { 0 < length numbers.now }
     requires room { at + 21 * length numbers.now ≤ length out.old }

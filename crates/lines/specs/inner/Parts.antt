@@ -4,13 +4,6 @@ use Rattle.units.specs.Words.{range_of}
 use Rattle.units.specs.declared.Range.{Range}
 use Rattle.lines.specs.declared.Field.{Field}
 
--- The letters of a name.
-abbrev pub letters_of : Field → Option ℕ
-letters_of Field.Empty = None
-letters_of (Field.Name w) = Some w
-letters_of (Field.Number v) = None
-letters_of Field.Neither = None
-
 -- A range of two numbers.
 abbrev pub bounds_of : Option ℕ → Option ℕ → Option Range
 bounds_of None l = None
