@@ -231,6 +231,8 @@ def stand_in(folder, status):
 
 
 def main():
+    # ./play proves and builds first, which takes minutes where no earlier check is kept: the alarm is for the cases.
+    subprocess.run([PLAY], stdin=subprocess.DEVNULL, stdout=subprocess.DEVNULL, stderr=subprocess.DEVNULL, timeout=3000)
     signal.alarm(100)  # a case that hangs fails
     usual, failed, passed = os.environ["PATH"], 0, 0
     with tempfile.TemporaryDirectory() as folder:
